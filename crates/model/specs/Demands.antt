@@ -1,0 +1,73 @@
+-- Demand 3 as a proposition, one claim about whole lists of calls.
+-- Putting the listed attribute values of one stopped device into a fresh one, in any order, repeated, with gets and refused calls between, makes the
+-- two equal, byte for byte, and for ever after alike; the same through save and restore.
+use Prim.Native.Nat.{ℕ, _≤_, _<_}
+use mathlib.Core.Path.{_≡_}
+use mathlib.Core.Bool.{true}
+use mathlib.Core.List.{List, [], _∷_, _++_, List·Memᴰ}
+use lib.IntN.{ℤ, pos, negsuc}
+use lib.ListN.{length}
+use Rattle.model.specs.Layout.{count, vcpus, affinity}
+use Rattle.model.specs.Sound.{sound, stopped, fresh}
+use Rattle.model.specs.Attributes.{Attribute}
+use Rattle.model.specs.Record.{listed, recordOf}
+use Rattle.model.specs.Calls.{Call, getAttribute, setAttribute, save, restore, Outcome, call, handedBack, after, trace}
+
+-- the first device: sound, initialised, no vCPU running
+pub record Stopped (s : List ℕ) : Type 0 where
+  pub is-sound : sound s ≡ true
+  pub is-stopped : stopped s ≡ true
+
+-- the second: sound, just initialised
+pub record Fresh (s : List ℕ) : Type 0 where
+  pub is-sound : sound s ≡ true
+  pub is-fresh : fresh s ≡ true
+
+-- the same count, and the same affinities in the same order
+pub record Alike (s t : List ℕ) : Type 0 where
+  pub same-count : count t ≡ count s
+  pub same-number : vcpus t ≡ vcpus s
+  pub same-affinities : (v : ℕ) → v < vcpus s → affinity t v ≡ affinity s v
+
+-- a put sets a listed attribute to what get answers for it on the first device
+pub data Put (from : List ℕ) : Call → Type 0 where
+  puts : (a : Attribute) (v : ℕ) → List·Memᴰ a (listed from) → call (getAttribute (a .group) (a .number)) from .answer ≡ pos v
+      → Put from (setAttribute (a .group) (a .number) v)
+
+-- what the list may hold, made at the state s: a put, a get, or an attribute call that is refused there
+pub data Allowed (from s : List ℕ) : Call → Type 0 where
+  put : {c : Call} → Put from c → Allowed from s c
+  get : (g a : ℕ) → Allowed from s (getAttribute g a)
+  refused : (g a v e : ℕ) → call (setAttribute g a v) s .answer ≡ negsuc e → Allowed from s (setAttribute g a v)
+
+-- such a list, made at the state s on: each call gets the state that the last one left
+pub data Restoring (from : List ℕ) : List ℕ → List Call → Type 0 where
+  none : {s : List ℕ} → Restoring from s []
+  one : {s : List ℕ} {c : Call} {cs : List Call} → Allowed from s c → Restoring from (call c s .state) cs → Restoring from s (c ∷ cs)
+
+-- with every listed attribute put
+pub record Whole (from : List ℕ) (cs : List Call) : Type 0 where
+  pub each : (a : Attribute) → List·Memᴰ a (listed from) → (v : ℕ) × Put from (setAttribute (a .group) (a .number) v) × List·Memᴰ (setAttribute (a .group) (a .number) v) cs
+
+-- equal, and for ever after alike: every list of later calls, of every kind, each with its numbers and buffers, gives the same outcomes on both.
+-- An outcome is the answer, every word of the state and every byte of the lent buffer; what is handed back follows from it.
+pub record Same (s t : List ℕ) : Type 0 where
+  pub equal : t ≡ s
+  pub later : (ds : List Call) → trace ds t ≡ trace ds s
+
+-- each put answers 0, and the list leaves the first device's state
+pub record ByAttributes (from to : List ℕ) (cs : List Call) : Type 0 where
+  pub answers : (before : List Call) (c : Call) (rest : List Call) → cs ≡ before ++ c ∷ rest → Put from c → call c (after before to) .answer ≡ pos 0
+  pub same : Same from (after cs to)
+
+-- save of the first succeeds and leaves it as it was; restore of what it hands back succeeds and leaves the first device's state
+pub record ByRecord (from to buf : List ℕ) : Type 0 where
+  pub saves : call (save buf) from .answer ≡ pos (length (recordOf from))
+  pub keeps : call (save buf) from .state ≡ from
+  pub answers : call (restore (handedBack (call (save buf) from))) to .answer ≡ pos 0
+  pub same : Same from (call (restore (handedBack (call (save buf) from))) to .state)
+
+abbrev pub Demand3 : Type 0
+Demand3 = (from to : List ℕ) → Stopped from → Fresh to → Alike from to
+    → ((cs : List Call) → Restoring from to cs → Whole from cs → ByAttributes from to cs)
+    × ((buf : List ℕ) → length (recordOf from) ≤ length buf → ByRecord from to buf)

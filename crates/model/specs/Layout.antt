@@ -1,0 +1,58 @@
+-- Where each field stands in the lent state: 1,760 words of 32 bits.
+--     0            initialised (0 or 1)
+--     1            interrupt count (0: unset)
+--     2            number of vCPUs
+--     3            GICD group enables (bits 0 and 1)
+--     4            GICD STATUSR
+--     5 - 15       zero
+--     16 + 32 v    block of vCPU v, v below 8: the bank of its SGIs and PPIs, then + 16 affinity, + 17 running, + 18 STATUSR, + 19 PMR,
+--                  + 20 ICC CTLR's bits (EOImode is bit 1), + 21 BPR0, + 22 BPR1, + 23 AP0R, + 24 AP1R, + 25 IGRPEN0, + 26 IGRPEN1, the rest zero
+--     256 + 16 w   bank of the SPIs 32 w to 32 w + 31, w from 1 to 31
+--     736 + id     route of the SPI id, from 32 to 1019
+--     1756 - 1759  zero
+-- A bank is 16 words for 32 interrupts: + 0 group, + 1 enabled, + 2 latch, + 3 active, + 4 line (a bit each), + 5 to + 12 priorities (a byte each),
+-- + 13 edge flags of the first 16, + 14 of the last 16, + 15 zero.
+use Prim.Native.Nat.{ℕ, zero, suc, _+_, _*_}
+use mathlib.Core.List.{List}
+use lib.ListN.{getD}
+
+abbrev pub stateLength : ℕ
+stateLength = 1760
+
+abbrev pub mostVcpus : ℕ
+mostVcpus = 8
+
+abbrev pub word : List ℕ → ℕ → ℕ
+word s at = getD s at 0
+
+-- ---- the device
+abbrev pub initialised : List ℕ → ℕ
+initialised s = word s 0
+
+abbrev pub count : List ℕ → ℕ
+count s = word s 1
+
+abbrev pub vcpus : List ℕ → ℕ
+vcpus s = word s 2
+
+-- ---- the block of vCPU v
+abbrev pub block : ℕ → ℕ
+block v = 16 + 32 * v
+
+abbrev pub vcpuWord : List ℕ → ℕ → ℕ → ℕ
+vcpuWord s v j = word s (block v + j)
+
+abbrev pub affinity : List ℕ → ℕ → ℕ
+affinity s v = vcpuWord s v 16
+
+abbrev pub running : List ℕ → ℕ → ℕ
+running s v = vcpuWord s v 17
+
+-- ---- the bank of the interrupts 32 w to 32 w + 31, as vCPU v sees it
+abbrev pub bank : ℕ → ℕ → ℕ
+bank v zero = block v
+bank v (suc w) = 256 + 16 * suc w
+
+-- the place of the route of an SPI
+abbrev pub routeAt : ℕ → ℕ
+routeAt id = 736 + id

@@ -1,0 +1,112 @@
+-- The sound states: right length, every field in range, what does not exist zero.
+use Prim.Native.Nat.{ℕ, zero, suc, _+_, _*_, _/_, _%_, _-_}
+use mathlib.Core.Bool.{Bool, true, false, not, cond, _&&_, _||_}
+use mathlib.Core.List.{List, [], _∷_}
+use lib.Dec.{leb, ltb, eqb}
+use lib.ListN.{length, getD}
+use Rattle.model.specs.Words.{within, every, allBelow}
+use Rattle.model.specs.Layout.{stateLength, mostVcpus, initialised, count, vcpus, vcpuWord, affinity, running}
+
+-- ---- the bits that a word may have
+
+-- the first 16 words of an initialised device; of words 0, 1 and 2 `setup` says more
+abbrev pub headerBits : List ℕ
+headerBits = 0xffffffff ∷ 0xffffffff ∷ 0xffffffff ∷ 3 ∷ 15 ∷ []
+
+-- a vCPU's block: priorities are multiples of 8; SGIs have no line and are edge, PPIs are level; Aff3 is 0 and Aff0 at most 15
+abbrev pub blockBits : List ℕ
+blockBits =
+    0xffffffff ∷ 0xffffffff ∷ 0xffffffff ∷ 0xffffffff ∷ 0xffff0000
+    ∷ 0xf8f8f8f8 ∷ 0xf8f8f8f8 ∷ 0xf8f8f8f8 ∷ 0xf8f8f8f8 ∷ 0xf8f8f8f8 ∷ 0xf8f8f8f8 ∷ 0xf8f8f8f8 ∷ 0xf8f8f8f8
+    ∷ 0xffff ∷ 0 ∷ 0
+    ∷ 0x00ffff0f ∷ 1 ∷ 15 ∷ 0xf8 ∷ 2 ∷ 7 ∷ 7 ∷ 0xffffffff ∷ 0xffffffff ∷ 1 ∷ 1 ∷ []
+
+-- a bank of SPIs; in the last one, of the interrupts 992 to 1023, those from 1020 do not exist
+abbrev pub bankBits : List ℕ
+bankBits =
+    0xffffffff ∷ 0xffffffff ∷ 0xffffffff ∷ 0xffffffff ∷ 0xffffffff
+    ∷ 0xf8f8f8f8 ∷ 0xf8f8f8f8 ∷ 0xf8f8f8f8 ∷ 0xf8f8f8f8 ∷ 0xf8f8f8f8 ∷ 0xf8f8f8f8 ∷ 0xf8f8f8f8 ∷ 0xf8f8f8f8
+    ∷ 0xffff ∷ 0xffff ∷ []
+
+abbrev pub lastBankBits : List ℕ
+lastBankBits =
+    0x0fffffff ∷ 0x0fffffff ∷ 0x0fffffff ∷ 0x0fffffff ∷ 0x0fffffff
+    ∷ 0xf8f8f8f8 ∷ 0xf8f8f8f8 ∷ 0xf8f8f8f8 ∷ 0xf8f8f8f8 ∷ 0xf8f8f8f8 ∷ 0xf8f8f8f8 ∷ 0xf8f8f8f8 ∷ 0
+    ∷ 0xffff ∷ 0x0fff ∷ []
+
+-- fresh values: all zero but the SGI edge flags, BPR0 2, BPR1 3 (`vcpuOk` has their least values), the affinity, the count and the initialised mark
+abbrev pub freshHeaderBits : List ℕ
+freshHeaderBits = 0xffffffff ∷ 0xffffffff ∷ 0xffffffff ∷ []
+
+abbrev pub freshBlockBits : List ℕ
+freshBlockBits =
+    0 ∷ 0 ∷ 0 ∷ 0 ∷ 0
+    ∷ 0 ∷ 0 ∷ 0 ∷ 0 ∷ 0 ∷ 0 ∷ 0 ∷ 0
+    ∷ 0xffff ∷ 0 ∷ 0
+    ∷ 0x00ffff0f ∷ 0 ∷ 0 ∷ 0 ∷ 0 ∷ 2 ∷ 3 ∷ []
+
+-- entry j of a table, where the thing that it speaks of exists
+unfoldable pub entry : Bool → List ℕ → ℕ → ℕ
+entry e bits j = cond e (getD bits j 0) 0
+
+-- word k of an initialised device of a count and n vCPUs: the device's own, a vCPU's, an SPI bank's, an SPI's route
+unfoldable pub usedBits : ℕ → ℕ → ℕ → ℕ
+usedBits count n k =
+    cond (ltb k 16) (entry true headerBits k)
+    (cond (ltb k 272) (entry (ltb ((k - 16) / 32) n) blockBits ((k - 16) % 32))
+    (cond (ltb k 752) (entry (ltb (32 * ((k - 256) / 16)) count) bankBits ((k - 256) % 16))
+    (cond (ltb k 768) (entry (ltb 992 count) lastBankBits (k - 752))
+    (cond (ltb k 1756 && ltb (k - 736) count) 0x00ffffff 0))))
+
+-- word k of a fresh device of n vCPUs
+unfoldable pub freshBits : ℕ → ℕ → ℕ
+freshBits n k =
+    cond (ltb k 16) (entry true freshHeaderBits k)
+    (cond (ltb k 272) (entry (ltb ((k - 16) / 32) n) freshBlockBits ((k - 16) % 32)) 0)
+
+-- before initialising only count, affinities and the fresh values
+unfoldable pub allowedBits : ℕ → ℕ → ℕ → ℕ → ℕ
+allowedBits zero count n k = freshBits n k
+allowedBits (suc i) count n k = usedBits count n k
+
+unfoldable pub wordOk : ℕ → ℕ → ℕ → ℕ → ℕ → Bool
+wordOk i count n k w = eqb w 0 || within 32 w (allowedBits i count n k)
+
+-- ---- the set-up: words 0, 1 and 2
+
+-- 64 to 1024 in steps of 32
+unfoldable pub isCount : ℕ → Bool
+isCount c = leb 64 c && leb c 1024 && eqb (c % 32) 0
+
+-- 0 to 8 vCPUs; a count, or none yet; after initialising a count and a vCPU
+unfoldable pub setup : ℕ → ℕ → ℕ → Bool
+setup i count n = leb i 1 && leb n mostVcpus && (eqb count 0 || isCount count) && (eqb i 0 || (isCount count && leb 1 n))
+
+-- ---- the vCPUs
+
+-- Aff3 is 0 and Aff0 at most 15
+unfoldable pub isAffinity : ℕ → Bool
+isAffinity a = ltb a 0x1000000 && leb (a % 256) 15
+
+-- none of the first n vCPUs has the affinity a
+unfoldable pub unused : List ℕ → ℕ → ℕ → Bool
+unused s a n = allBelow (λ v. not (eqb (affinity s v) a)) n
+
+-- SGIs are edge, BPR0 is at least 2 and BPR1 at least 3, and no vCPU before v has its affinity
+unfoldable pub vcpuOk : List ℕ → ℕ → Bool
+vcpuOk s v = eqb (vcpuWord s v 13) 0xffff && leb 2 (vcpuWord s v 21) && leb 3 (vcpuWord s v 22) && unused s (affinity s v) v
+
+-- ---- sound
+
+unfoldable pub sound : List ℕ → Bool
+sound s =
+    eqb (length s) stateLength && (setup (initialised s) (count s) (vcpus s)
+    && (allBelow (vcpuOk s) (vcpus s) && every (wordOk (initialised s) (count s) (vcpus s)) 0 s))
+
+-- initialised, and no vCPU runs
+unfoldable pub stopped : List ℕ → Bool
+stopped s = eqb (initialised s) 1 && allBelow (λ v. eqb (running s v) 0) (vcpus s)
+
+-- what restore asks of the words of its target: just initialised
+unfoldable pub fresh : List ℕ → Bool
+fresh s = eqb (initialised s) 1 && every (λ k w. within 32 w (freshBits (vcpus s) k)) 0 s
