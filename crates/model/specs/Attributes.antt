@@ -63,12 +63,12 @@ placed Lines a s = cond (ltb (low a) 32) (ltb (indexOf s (high a)) (vcpus s)) tr
 -- ---- what it names
 
 -- only the listed aligned words exist
+unfoldable pub mappedItem : View → Decoded → Item
+mappedItem x (Listed r k) = Mapped x r k
+mappedItem x Unlisted = Nameless
+
 unfoldable pub mapped : View → ℕ → Item
-mapped x off = cond (eqb (off % 4) 0) (ofRow (decode (rows x) off)) Nameless
-  where
-    ofRow : Decoded → Item
-    ofRow (Listed r k) = Mapped x r k
-    ofRow Unlisted = Nameless
+mapped x off = cond (eqb (off % 4) 0) (mappedItem x (decode (rows x) off)) Nameless
 
 -- bits 31-16 are 0 in every encoding
 unfoldable pub systemItem : ℕ → SystemRegister → Item

@@ -69,8 +69,12 @@ unfoldable pub allowedBits : ℕ → ℕ → ℕ → ℕ → ℕ
 allowedBits zero count n k = freshBits n k
 allowedBits (suc i) count n k = usedBits count n k
 
+-- a word has no bit, or only bits that it may have
+unfoldable pub fits : ℕ → ℕ → Bool
+fits w m = eqb w 0 || within 32 w m
+
 unfoldable pub wordOk : ℕ → ℕ → ℕ → ℕ → ℕ → Bool
-wordOk i count n k w = eqb w 0 || within 32 w (allowedBits i count n k)
+wordOk i count n k w = fits w (allowedBits i count n k)
 
 -- ---- the set-up: words 0, 1 and 2
 
@@ -109,4 +113,4 @@ stopped s = eqb (initialised s) 1 && allBelow (λ v. eqb (running s v) 0) (vcpus
 
 -- what restore asks of the words of its target: just initialised
 unfoldable pub fresh : List ℕ → Bool
-fresh s = eqb (initialised s) 1 && every (λ k w. within 32 w (freshBits (vcpus s) k)) 0 s
+fresh s = eqb (initialised s) 1 && every (λ k w. fits w (freshBits (vcpus s) k)) 0 s

@@ -1,0 +1,254 @@
+-- What each register reads by attribute, as the one word of the state that it shows: in a sound, initialised device.
+use Prim.Native.Nat.{ℕ, zero, suc, _+_, _*_, _-_, _/_, _%_, _^_, _≤_, _<_, min}
+use mathlib.Core.Path.{_≡_, refl, sym, ap, _∙_}
+use mathlib.Core.Bool.{Bool, true, false, not, cond, _&&_, _||_, true≢false}
+use mathlib.Core.List.{List}
+use mathlib.Core.Logic.{_⊎_, inl, inr, ⊎-elim}
+use native.Mathlib.Nat.{add-comm, mod-eq-of-lt, div-eq-of-lt}
+use native.Mathlib.Decide.{ℕ-discrete, decLt}
+use native.Mathlib.Omega.{arith}
+use borrow.Author.Tests.{eqb-true, eq-eqb, ne-eqb, lt-ltb, le-ltb, ltb-true, le-leb, not-true}
+use lib.Dec.{eqb, ltb, leb}
+use lib.ListN.{getD}
+use lib.Pow.{shr-shr, pow-mono}
+use Rattle.model.specs.Words.{bit, gather, allBelow}
+use Rattle.model.specs.Layout.{stateLength, word, count, vcpus, block, bank, routeAt}
+use Rattle.model.specs.Interrupts.{isPrivate, isSpi, flag, edge, priority, route}
+use Rattle.model.specs.Sound.{fits, usedBits, entry, blockBits, lastBankBits}
+use Rattle.model.specs.Registers.{has, seenBy, shows, readFlags, readPriority, readConfig, readRoute}
+use Rattle.model.specs.declared.View.{View}
+use Rattle.model.specs.declared.View.the-variants.{Distributor, Frame}
+use Rattle.model.specs.declared.Shown.the-variants.{Flag}
+use Rattle.model.proofs.Bits.{gather-same, bit-mod, word-is}
+use Rattle.model.proofs.Tests.{both, and-true, and-implied, not-both, below-at}
+use Rattle.model.proofs.Within.{bit-none, fits-lt, fits-bit, fits-none}
+use Rattle.model.proofs.Soundness.{Count, Ready}
+
+-- ---- bits of a word
+
+pub bit-shift : (w a i : ℕ) → bit (w / 2 ^ a) i ≡ bit w (a + i)
+unfolding bit
+bit-shift w a i = ap (λ (x : ℕ). eqb (x % 2) 1) (shr-shr w a i)
+
+above : (w i : ℕ) → w < 2 ^ i → bit w i ≡ false
+unfolding bit
+above w i l = rw (div-eq-of-lt l)
+
+-- a set bit lies below the word's length
+pub bit-below : (n w i : ℕ) → w < 2 ^ n → bit w i ≡ true → i < n
+bit-below n w i l b = go (decLt i n)
+  where
+    none : n ≤ i → bit w i ≡ false
+    none h = let q : w < 2 ^ i = omega (arith, pow-mono h) in above w i q
+
+    go : Dec (i < n) → i < n
+    go (yes h) = h
+    go (no h) = absurd (not-both (bit w i) b (none (omega arith)))
+
+-- a word whose set bits all pass a test is what is gathered of them
+pub gather-passed : (w : ℕ) (p : ℕ → Bool) → w < 2 ^ 32 → ((i : ℕ) → i < 32 → bit w i ≡ true → p i ≡ true) → gather 32 (λ i. p i && bit w i) ≡ w
+gather-passed w p l h = sym (word-is 32 w (λ i. p i && bit w i) l (λ i k. sym (and-implied (p i) (bit w i) (h i k))))
+
+-- sixteen edge flags as ICFGR reads them: each is the upper of two bits, the lower is 0
+unfoldable pub spread : ℕ → ℕ
+spread w = gather 32 (λ i. eqb (i % 2) 1 && bit w (i / 2))
+
+and-assoc : (a b c : Bool) → (a && b && c) ≡ (a && (b && c))
+and-assoc true b c = refl
+and-assoc false b c = refl
+
+-- ---- the interrupts of a bank: where a word of it has a bit, the interrupt exists
+
+-- w is an SPI word of the device
+pub record SpiWord (s : List ℕ) (w : ℕ) : Type 0 where
+  pub low : 1 ≤ w
+  pub high : 32 * w + 32 ≤ count s
+
+module _ (s : List ℕ) (h : Ready s) where
+  pub is-spi : (id : ℕ) → 32 ≤ id → id < count s → id < 1020 → isSpi s id ≡ true
+  unfolding isSpi
+  is-spi id a b c = and-true (le-leb 32 id a) (lt-ltb id (min (count s) 1020) (omega arith))
+
+  -- the bits of word k of the last bank, of the interrupts from 992 on
+  last : (k : ℕ) → k < 15 → 992 < count s → fits (word s (752 + k)) (getD lastBankBits k 0) ≡ true
+  unfolding usedBits entry
+  last k l c =
+      let e : 752 + k - 752 ≡ k = omega arith in
+      rw (le-ltb (752 + k) 16 (omega arith), le-ltb (752 + k) 272 (omega arith), le-ltb (752 + k) 752 (omega arith), lt-ltb (752 + k) 768 (omega arith), lt-ltb 992 (count s) c, e)
+      at (h .used (752 + k) (omega arith))
+
+  -- a flag
+  pub flag-exists : (w k i : ℕ) → SpiWord s w → k < 5 → i < 32 → bit (word s (256 + 16 * w + k)) i ≡ true → isSpi s (32 * w + i) ≡ true
+  flag-exists w k i q l m b = go (decLt w 31)
+    where
+      mask : (j : ℕ) → j < 5 → getD lastBankBits j 0 ≡ 0x0fffffff
+      mask zero r = refl
+      mask (suc zero) r = refl
+      mask (suc (suc zero)) r = refl
+      mask (suc (suc (suc zero))) r = refl
+      mask (suc (suc (suc (suc zero)))) r = refl
+      mask (suc (suc (suc (suc (suc j))))) r = absurd (omega arith)
+
+      go : Dec (w < 31) → isSpi s (32 * w + i) ≡ true
+      go (yes r) = is-spi (32 * w + i) (omega (arith, q .low)) (omega (arith, q .high)) (omega arith)
+      go (no r) =
+          let e : w ≡ 31 = omega (arith, q .high, h .counted .most) in
+          let f : 256 + 16 * w + k ≡ 752 + k = omega arith in
+          let in28 : i < 28 = bit-below 28 0x0fffffff i (omega arith)
+              (fits-bit (word s (752 + k)) 0x0fffffff i (rw (mask k l) at (last k (omega arith) (omega (arith, q .high)))) (rw f at b)) in
+          is-spi (32 * w + i) (omega (arith, q .low)) (omega (arith, q .high)) (omega arith)
+
+  -- a priority: word j of eight, a byte for each of four interrupts
+  pub priority-exists : (w j i : ℕ) → SpiWord s w → j < 8 → i < 32 → bit (word s (256 + 16 * w + (5 + j))) i ≡ true → isSpi s (32 * w + 4 * j + i / 8) ≡ true
+  priority-exists w j i q l m b = go (decLt (32 * w + 4 * j) 1020)
+    where
+      go : Dec (32 * w + 4 * j < 1020) → isSpi s (32 * w + 4 * j + i / 8) ≡ true
+      go (yes r) = is-spi (32 * w + 4 * j + i / 8) (omega (arith, q .low)) (omega (arith, q .high)) (omega arith)
+      go (no r) =
+          let e : 256 + 16 * w + (5 + j) ≡ 752 + 12 = omega (arith, q .high, h .counted .most) in
+          let z : word s (752 + 12) ≡ 0 = fits-none (word s (752 + 12)) (last 12 (omega arith) (omega (arith, q .high))) in
+          absurd (not-both (bit 0 i) (rw (e, z) at b) (bit-none i))
+
+  -- an edge flag: half j of two
+  pub edge-exists : (w j i : ℕ) → SpiWord s w → j < 2 → i < 16 → bit (word s (256 + 16 * w + (13 + j))) i ≡ true → isSpi s (32 * w + 16 * j + i) ≡ true
+  edge-exists w j i q l m b = go (decLt (32 * w + 16 * j) 1008)
+    where
+      go : Dec (32 * w + 16 * j < 1008) → isSpi s (32 * w + 16 * j + i) ≡ true
+      go (yes r) = is-spi (32 * w + 16 * j + i) (omega (arith, q .low)) (omega (arith, q .high)) (omega arith)
+      go (no r) =
+          let e : 256 + 16 * w + (13 + j) ≡ 752 + 14 = omega (arith, q .high, h .counted .most) in
+          let in12 : i < 12 = bit-below 12 0x0fff i (omega arith) (fits-bit (word s (752 + 14)) 0x0fff i (last 14 (omega arith) (omega (arith, q .high))) (rw e at b)) in
+          is-spi (32 * w + 16 * j + i) (omega (arith, q .low)) (omega (arith, q .high)) (omega arith)
+
+  -- ---- what a word of 32 flags reads
+
+  fits-word : (k : ℕ) → k < stateLength → word s k < 2 ^ 32
+  fits-word k l = fits-lt (word s k) (usedBits (count s) (vcpus s) k) (h .used k l)
+
+  bank-at : (v w : ℕ) → 1 ≤ w → bank v w ≡ 256 + 16 * w
+  bank-at v zero l = absurd (omega arith)
+  bank-at v (suc w) l = refl
+
+  -- the flag of interrupt 32 w + i is bit i of the bank's word
+  flag-bit : (v w k i : ℕ) → i < 32 → flag k s v (32 * w + i) ≡ bit (word s (bank v w + k)) i
+  flag-bit v w k i l =
+      let d : (32 * w + i) / 32 ≡ w = omega arith in
+      let r : (32 * w + i) % 32 ≡ i = omega arith in
+      rw (d, r)
+
+  -- where the interrupts that have a bit exist, a register of flags reads the word
+  reads-word : (x : View) (k from w : ℕ) → word s (bank (seenBy x) w + k) < 2 ^ 32
+      → ((i : ℕ) → i < 32 → bit (word s (bank (seenBy x) w + k)) i ≡ true → (has s x (32 * w + i) && leb from (32 * w + i)) ≡ true)
+      → readFlags s x k from Flag w ≡ word s (bank (seenBy x) w + k)
+  unfolding readFlags shows
+  reads-word x k from w l p =
+      gather-same 32 _ (λ i. (has s x (32 * w + i) && leb from (32 * w + i)) && bit (word s (bank (seenBy x) w + k)) i)
+      (λ i m. ap (λ (b : Bool). (has s x (32 * w + i) && leb from (32 * w + i)) && b) (flag-bit (seenBy x) w k i m))
+      ∙ gather-passed (word s (bank (seenBy x) w + k)) (λ i. has s x (32 * w + i) && leb from (32 * w + i)) l p
+
+  pub reads-spi-flags : (w k from : ℕ) → SpiWord s w → k < 5 → from ≤ 32 → readFlags s Distributor k from Flag w ≡ word s (256 + 16 * w + k)
+  unfolding has seenBy
+  reads-spi-flags w k from q l f =
+      let b : bank 0 w ≡ 256 + 16 * w = bank-at 0 w (q .low) in
+      let top : w < 32 = omega (arith, q .high, h .counted .most) in
+      reads-word Distributor k from w (rw b (fits-word (256 + 16 * w + k) (omega arith)))
+      (λ i m e. and-true (flag-exists w k i q l m (rw b at e)) (le-leb from (32 * w + i) (omega (arith, q .low))))
+      ∙ rw b
+
+  -- the private ones: lines are the PPIs'
+  private : (i : ℕ) → i < 32 → isPrivate (32 * 0 + i) ≡ true
+  unfolding isPrivate
+  private i l = lt-ltb (32 * 0 + i) 32 (omega arith)
+
+  block-word : (v j : ℕ) → v < vcpus s → j < 27 → fits (word s (block v + j)) (getD blockBits j 0) ≡ true
+  unfolding usedBits entry
+  block-word v j l m =
+      let d : (block v + j - 16) / 32 ≡ v = omega arith in
+      let r : (block v + j - 16) % 32 ≡ j = omega arith in
+      rw (le-ltb (block v + j) 16 (omega arith), lt-ltb (block v + j) 272 (omega (arith, h .few)), d, lt-ltb v (vcpus s) l, r)
+      at (h .used (block v + j) (omega (arith, h .few)))
+
+  pub reads-private-flags : (v k : ℕ) → v < vcpus s → k < 4 → readFlags s (Frame v) k 0 Flag 0 ≡ word s (block v + k)
+  unfolding has seenBy
+  reads-private-flags v k l m =
+      reads-word (Frame v) k 0 0 (fits-word (block v + k) (omega (arith, h .few)))
+      (λ i n e. and-true (private i n) (le-leb 0 (32 * 0 + i) (omega arith)))
+
+  pub reads-private-lines : (v : ℕ) → v < vcpus s → readFlags s (Frame v) 4 16 Flag 0 ≡ word s (block v + 4)
+  unfolding has seenBy
+  reads-private-lines v l =
+      reads-word (Frame v) 4 16 0 (fits-word (block v + 4) (omega (arith, h .few)))
+      (λ i n e. and-true (private i n) (le-leb 16 (32 * 0 + i) (high i n (fits-bit (word s (block v + 4)) 0xffff0000 i (block-word v 4 l (omega arith)) e))))
+    where
+      high : (i : ℕ) → i < 32 → bit 0xffff0000 i ≡ true → 16 ≤ 32 * 0 + i
+      high i n e = go (decLt i 16)
+        where
+          low16 : allBelow (λ j. not (bit 0xffff0000 j)) 16 ≡ true
+          low16 = unfold allBelow bit in refl
+
+          go : Dec (i < 16) → 16 ≤ 32 * 0 + i
+          go (yes r) = absurd (not-both (bit 0xffff0000 i) e (not-true (bit 0xffff0000 i) (below-at (λ j. not (bit 0xffff0000 j)) 16 low16 i r)))
+          go (no r) = omega arith
+
+  -- ---- what a word of four priorities reads
+
+  -- the bit of a priority is a bit of the bank's word
+  priority-bit : (v w j i : ℕ) → j < 8 → i < 32 → bit (priority s v (4 * (8 * w + j) + i / 8)) (i % 8) ≡ bit (word s (bank v w + 5 + j)) i
+  priority-bit v w j i l m =
+      let d : (4 * (8 * w + j) + i / 8) / 32 ≡ w = omega arith in
+      let r : (4 * (8 * w + j) + i / 8) % 32 / 4 ≡ j = omega arith in
+      let b : (4 * (8 * w + j) + i / 8) % 4 ≡ i / 8 = omega arith in
+      let p : 8 * (i / 8) + i % 8 ≡ i = omega arith in
+      rw (d, r, b, bit-mod 8 (word s (bank v w + 5 + j) / 2 ^ (8 * (i / 8))) (i % 8) (omega arith), bit-shift (word s (bank v w + 5 + j)) (8 * (i / 8)) (i % 8), p)
+
+  reads-four : (x : View) (w j : ℕ) → j < 8 → word s (bank (seenBy x) w + 5 + j) < 2 ^ 32
+      → ((i : ℕ) → i < 32 → bit (word s (bank (seenBy x) w + 5 + j)) i ≡ true → has s x (4 * (8 * w + j) + i / 8) ≡ true)
+      → readPriority s x (8 * w + j) ≡ word s (bank (seenBy x) w + 5 + j)
+  unfolding readPriority
+  reads-four x w j m l p =
+      gather-same 32 _ (λ i. has s x (4 * (8 * w + j) + i / 8) && bit (word s (bank (seenBy x) w + 5 + j)) i)
+      (λ i n. ap (λ (b : Bool). has s x (4 * (8 * w + j) + i / 8) && b) (priority-bit (seenBy x) w j i m n))
+      ∙ gather-passed (word s (bank (seenBy x) w + 5 + j)) (λ i. has s x (4 * (8 * w + j) + i / 8)) l p
+
+  pub reads-spi-priority : (w j : ℕ) → SpiWord s w → j < 8 → readPriority s Distributor (8 * w + j) ≡ word s (256 + 16 * w + (5 + j))
+  unfolding has seenBy
+  reads-spi-priority w j q l =
+      let b : bank 0 w + 5 + j ≡ 256 + 16 * w + (5 + j) = rw (bank-at 0 w (q .low)) (omega arith) in
+      let top : w < 32 = omega (arith, q .high, h .counted .most) in
+      reads-four Distributor w j l (rw b (fits-word (256 + 16 * w + (5 + j)) (omega arith)))
+      (λ i m e. let f : 4 * (8 * w + j) + i / 8 ≡ 32 * w + 4 * j + i / 8 = omega arith in rw f (priority-exists w j i q l m (rw b at e)))
+      ∙ rw b
+
+  pub reads-private-priority : (v j : ℕ) → v < vcpus s → j < 8 → readPriority s (Frame v) j ≡ word s (block v + (5 + j))
+  unfolding has seenBy isPrivate
+  reads-private-priority v j l m =
+      let z : 8 * 0 + j ≡ j = omega arith in
+      let b : block v + 5 + j ≡ block v + (5 + j) = omega arith in
+      rw z at (reads-four (Frame v) 0 j m (rw b (fits-word (block v + (5 + j)) (omega (arith, h .few))))
+      (λ i n e. lt-ltb (4 * (8 * 0 + j) + i / 8) 32 (omega arith)))
+      ∙ rw b
+
+  -- ---- what a word of sixteen edge flags reads: each at the upper of its two bits
+
+  pub reads-spi-config : (w j : ℕ) → SpiWord s w → j < 2 → readConfig s Distributor (2 * w + j) ≡ spread (word s (256 + 16 * w + (13 + j)))
+  unfolding readConfig has seenBy spread
+  reads-spi-config w j q l = gather-same 32 _ (λ i. eqb (i % 2) 1 && bit (word s (256 + 16 * w + (13 + j))) (i / 2)) at
+    where
+      at : (i : ℕ) → i < 32
+          → (eqb (i % 2) 1 && isSpi s (16 * (2 * w + j) + i / 2) && edge s 0 (16 * (2 * w + j) + i / 2)) ≡ (eqb (i % 2) 1 && bit (word s (256 + 16 * w + (13 + j))) (i / 2))
+      at i m =
+          let d : (16 * (2 * w + j) + i / 2) / 32 ≡ w = omega arith in
+          let r : (16 * (2 * w + j) + i / 2) % 32 / 16 ≡ j = omega arith in
+          let b : (16 * (2 * w + j) + i / 2) % 16 ≡ i / 2 = omega arith in
+          let f : 16 * (2 * w + j) + i / 2 ≡ 32 * w + 16 * j + i / 2 = omega arith in
+          let p : bank 0 w + 13 + j ≡ 256 + 16 * w + (13 + j) = rw (bank-at 0 w (q .low)) (omega arith) in
+          rw (d, r, b, p, f, and-assoc (eqb (i % 2) 1)) (ap (λ (t : Bool). eqb (i % 2) 1 && t) (and-implied _ _ (edge-exists w j (i / 2) q l (omega arith))))
+
+  -- ---- a route
+
+  pub reads-route : (id : ℕ) → 32 ≤ id → id < min (count s) 1020 → readRoute s Distributor (2 * (id - 32)) ≡ word s (routeAt id)
+  unfolding readRoute has isSpi
+  reads-route id l m =
+      let e : 2 * (id - 32) % 2 ≡ 0 = omega arith in
+      let f : 32 + 2 * (id - 32) / 2 ≡ id = omega arith in
+      rw (e, f, le-leb 32 id l, lt-ltb id (min (count s) 1020) m)

@@ -1,0 +1,192 @@
+-- A refused call answers -errno and changes nothing; any other answers its value and leaves its state; EFAULT comes first.
+use Prim.Native.Nat.{ℕ, zero, suc, _-_, _<_}
+use mathlib.Core.Path.{_≡_, refl, sym, ap, _∙_}
+use mathlib.Core.Bool.{Bool, true, false, not}
+use mathlib.Core.List.{List, [], _∷_}
+use mathlib.Core.Logic.{_⊎_, inl, inr, _↔_}
+use native.Mathlib.Omega.{arith}
+use borrow.Author.Tests.{eq-eqb, ne-eqb, lt-ltb, le-ltb, le-leb, lt-leb, not-true, not-false}
+use lib.IntN.{pos, negsuc, negℤ}
+use Rattle.model.specs.Refusals.{Check, Refusal, none, refuse, first, errno, number}
+use Rattle.model.specs.Calls.{Call, Outcome, Does, given, acceptable, checks, refusal, value, next, lent, filled, settle, call}
+use Rattle.model.specs.declared.Errno.{Errno}
+use Rattle.model.specs.declared.Errno.the-variants.{Eperm, Eio, Enxio, Enomem, Efault, Ebusy, Eexist, Enodev, Einval, Enospc, Ebadmsg}
+use Rattle.model.specs.declared.Answer.the-variants.{Value, Refused}
+
+-- ---- a list of tests: all hold, or a first one fails
+
+abbrev pub Passed : List Check → Type 0
+Passed [] = Unit {0}
+Passed (c ∷ cs) = (c .0 ≡ true) × Passed cs
+
+pub passed : (cs : List Check) → first cs ≡ none → Passed cs
+unfolding first
+passed [] e = tt
+passed (c ∷ cs) e = step (c .0) refl (passed cs)
+  where
+    step : (b : Bool) → c .0 ≡ b → (first cs ≡ none → Passed cs) → (c .0 ≡ true) × Passed cs
+    step true q ih = (q, ih (rw (q, first) at e))
+    step false q ih = let z : _≡_ {A = ℕ} 0 1 = cc (rw (q, first) at e) in absurd (omega arith)
+
+pub none-of : (cs : List Check) → Passed cs → first cs ≡ none
+unfolding first
+none-of [] h = refl
+none-of (c ∷ cs) h = rw (h .0, first) (none-of cs (h .1))
+
+-- the first test that fails has the errno e: those before it hold
+pub data Fails : List Check → Errno → Type 0 where
+  fails : {b : Bool} {e : Errno} {cs : List Check} → b ≡ false → Fails ((b, e) ∷ cs) e
+  holds : {b : Bool} {e n : Errno} {cs : List Check} → b ≡ true → Fails cs n → Fails ((b, e) ∷ cs) n
+
+pub data Holds : List Check → Type 0 where
+  end : Holds []
+  also : {b : Bool} {e : Errno} {cs : List Check} → b ≡ true → Holds cs → Holds ((b, e) ∷ cs)
+
+pub fails-first : {cs : List Check} {n : Errno} → Fails cs n → first cs ≡ refuse n
+unfolding first
+fails-first (fails e) = rw (e, first)
+fails-first (holds e h) = rw (e, first) (fails-first h)
+
+pub holds-first : {cs : List Check} → Holds cs → first cs ≡ none
+unfolding first
+holds-first end = refl
+holds-first (also e h) = rw (e, first) (holds-first h)
+
+-- ---- EFAULT first, then the call's own tests in their order
+
+pub fault-first : (c : Call) (s : List ℕ) → acceptable (given c) s ≡ false → refusal c s ≡ refuse Efault
+unfolding refusal
+fault-first c s e = rw (e, refusal)
+
+pub tests-next : (c : Call) (s : List ℕ) → acceptable (given c) s ≡ true → refusal c s ≡ first (checks c s)
+unfolding refusal
+tests-next c s e = rw (e, refusal)
+
+-- a call whose state is not acceptable answers -14, whatever it is
+pub fault-answer : (c : Call) (s : List ℕ) → acceptable (given c) s ≡ false → call c s .answer ≡ negℤ (pos 14)
+unfolding call settle number errno
+fault-answer c s e = ap (λ (r : Refusal). settle r c s .answer) (fault-first c s e)
+
+-- ---- every call is refused or not
+
+pub granted : (c : Call) (s : List ℕ) → refusal c s ≡ none → call c s ≡ record { answer = pos (value c s); state = next c s; buffer = filled (given c) s }
+unfolding call settle number
+granted c s e = ap (λ (r : Refusal). settle r c s) e
+
+pub refused : (c : Call) (s : List ℕ) (e : Errno) → refusal c s ≡ refuse e → call c s ≡ record { answer = negℤ (pos (errno e)); state = s; buffer = lent (given c) }
+unfolding call settle number
+refused c s e h = ap (λ (r : Refusal). settle r c s) h
+
+pub refused-or-granted : (c : Call) (s : List ℕ) → (refusal c s ≡ none) ⊎ ((e : Errno) × (refusal c s ≡ refuse e))
+refused-or-granted c s = step (refusal c s) refl
+  where
+    step : (r : Refusal) → refusal c s ≡ r → (refusal c s ≡ none) ⊎ ((e : Errno) × (refusal c s ≡ refuse e))
+    step none h = inl h
+    step (refuse e) h = inr (e, h)
+
+-- a call that is refused with e changes no word of the state and no byte of the lent buffer
+pub record IsRefused (c : Call) (s : List ℕ) (e : Errno) : Type 0 where
+  pub refuses : refusal c s ≡ refuse e
+  pub answer : call c s .answer ≡ negℤ (pos (errno e))
+  pub state : call c s .state ≡ s
+  pub buffer : call c s .buffer ≡ lent (given c)
+
+-- a call that is not refused
+pub record IsGranted (c : Call) (s : List ℕ) : Type 0 where
+  pub grants : refusal c s ≡ none
+  pub answer : call c s .answer ≡ pos (value c s)
+  pub state : call c s .state ≡ next c s
+  pub buffer : call c s .buffer ≡ filled (given c) s
+
+pub is-refused : (c : Call) (s : List ℕ) (e : Errno) → refusal c s ≡ refuse e → IsRefused c s e
+is-refused c s e h =
+    record {
+      refuses = h;
+      answer = ap (λ (o : Outcome). o .answer) (refused c s e h);
+      state = ap (λ (o : Outcome). o .state) (refused c s e h);
+      buffer = ap (λ (o : Outcome). o .buffer) (refused c s e h);
+    }
+
+pub is-granted : (c : Call) (s : List ℕ) → refusal c s ≡ none → IsGranted c s
+is-granted c s h =
+    record {
+      grants = h;
+      answer = ap (λ (o : Outcome). o .answer) (granted c s h);
+      state = ap (λ (o : Outcome). o .state) (granted c s h);
+      buffer = ap (λ (o : Outcome). o .buffer) (granted c s h);
+    }
+
+pub every-call : (c : Call) (s : List ℕ) → IsGranted c s ⊎ ((e : Errno) × IsRefused c s e)
+every-call c s = step (refused-or-granted c s)
+  where
+    step : (refusal c s ≡ none) ⊎ ((e : Errno) × (refusal c s ≡ refuse e)) → IsGranted c s ⊎ ((e : Errno) × IsRefused c s e)
+    step (inl h) = inl (is-granted c s h)
+    step (inr h) = inr (h .0, is-refused c s (h .0) (h .1))
+
+-- ---- the answer is negative exactly when the call is refused
+
+pub errno-positive : (e : Errno) → 0 < errno e
+unfolding errno
+errno-positive Eperm = omega arith
+errno-positive Eio = omega arith
+errno-positive Enxio = omega arith
+errno-positive Enomem = omega arith
+errno-positive Efault = omega arith
+errno-positive Ebusy = omega arith
+errno-positive Eexist = omega arith
+errno-positive Enodev = omega arith
+errno-positive Einval = omega arith
+errno-positive Enospc = omega arith
+errno-positive Ebadmsg = omega arith
+
+minus : (n : ℕ) → 0 < n → negℤ (pos n) ≡ negsuc (n - 1)
+minus zero h = absurd (omega arith)
+minus (suc n) h = let e : suc n - 1 ≡ n = omega arith in rw e
+
+pub negative-errno : (c : Call) (s : List ℕ) (n : ℕ) → call c s .answer ≡ negsuc n → (e : Errno) × (refusal c s ≡ refuse e) × (errno e ≡ suc n)
+negative-errno c s n h = step (every-call c s)
+  where
+    step : IsGranted c s ⊎ ((e : Errno) × IsRefused c s e) → (e : Errno) × (refusal c s ≡ refuse e) × (errno e ≡ suc n)
+    step (inl g) = let z : _≡_ {A = ℕ} 0 1 = cc (g .answer) in absurd (omega arith)
+    step (inr r) =
+        let k : errno (r .0) - 1 ≡ n = cc (r .1 .answer, minus (errno (r .0)) (errno-positive (r .0))) in
+        (r .0, r .1 .refuses, omega (arith, errno-positive (r .0)))
+
+pub refused-negative : (c : Call) (s : List ℕ) (e : Errno) → refusal c s ≡ refuse e → call c s .answer ≡ negsuc (errno e - 1)
+refused-negative c s e h = is-refused c s e h .answer ∙ minus (errno e) (errno-positive e)
+
+pub negative-refused : (c : Call) (s : List ℕ) → ((n : ℕ) × (call c s .answer ≡ negsuc n)) ↔ ((e : Errno) × (refusal c s ≡ refuse e))
+negative-refused c s =
+    (λ h. let r = negative-errno c s (h .0) (h .1) in (r .0, r .1), λ h. (errno (h .0) - 1, refused-negative c s (h .0) (h .1)))
+
+-- ---- the same, as a function promises it
+
+pub faults : (c : Call) (s : List ℕ) → acceptable (given c) s ≡ false → Does (call c s) (number (Refused Efault)) s (lent (given c))
+unfolding number
+faults c s e = rw (refused c s Efault (fault-first c s e)) (record { answer = refl; state = refl; buffer = refl })
+
+pub refuses-first : (c : Call) (s : List ℕ) (e : Errno) → acceptable (given c) s ≡ true → first (checks c s) ≡ refuse e → Does (call c s) (number (Refused e)) s (lent (given c))
+unfolding number
+refuses-first c s e a h = rw (refused c s e (tests-next c s a ∙ h)) (record { answer = refl; state = refl; buffer = refl })
+
+pub grants-first : (c : Call) (s : List ℕ) (v : ℕ) (t b : List ℕ) → acceptable (given c) s ≡ true → first (checks c s) ≡ none → v ≡ value c s → t ≡ next c s → b ≡ filled (given c) s
+    → Does (call c s) (number (Value v)) t b
+unfolding number
+grants-first c s v t b a h p q r = rw (granted c s (tests-next c s a ∙ h)) (record { answer = ap pos p; state = q; buffer = r })
+
+pub refuses : (c : Call) (s : List ℕ) (e : Errno) → acceptable (given c) s ≡ true → Fails (checks c s) e → Does (call c s) (number (Refused e)) s (lent (given c))
+refuses c s e a h = refuses-first c s e a (fails-first h)
+
+pub grants : (c : Call) (s : List ℕ) (v : ℕ) (t b : List ℕ) → acceptable (given c) s ≡ true → Holds (checks c s) → v ≡ value c s → t ≡ next c s → b ≡ filled (given c) s
+    → Does (call c s) (number (Value v)) t b
+grants c s v t b a h p q r = grants-first c s v t b a (holds-first h) p q r
+
+-- what a function that returns a test's value tells
+pub told-no : (b r : Bool) → r ≡ b → not r ≡ true → b ≡ false
+told-no b r e h = sym e ∙ not-true r h
+
+pub told-yes : (b r : Bool) → r ≡ b → not r ≡ false → b ≡ true
+told-yes b r e h = sym e ∙ not-false r h
+
+-- what a branch of the code has tested, as the value of a check: `search tests` finds the branches' facts
+pub ruleset tests = (fails, holds, end, also, told-no, told-yes, eq-eqb, ne-eqb, lt-ltb, le-ltb, le-leb, lt-leb)

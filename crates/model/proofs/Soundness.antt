@@ -1,0 +1,147 @@
+-- A sound state, part by part: its length, its set-up, each vCPU, each word.
+use Prim.Native.Nat.{ℕ, zero, suc, _+_, _*_, _-_, _/_, _%_, _^_, _≤_, _<_}
+use mathlib.Core.Path.{_≡_, refl, sym, ap, _∙_}
+use mathlib.Core.Bool.{Bool, true, false, not, _&&_, _||_}
+use mathlib.Core.List.{List}
+use mathlib.Core.Logic.{_⊎_, inl, inr, ⊎-elim}
+use native.Mathlib.Omega.{arith}
+use borrow.Author.Tests.{eqb-true, eq-eqb, leb-true, le-leb}
+use lib.Dec.{eqb, leb, ltb}
+use lib.ListN.{length}
+use Rattle.model.specs.Words.{every, allBelow}
+use Rattle.model.specs.Layout.{stateLength, mostVcpus, word, initialised, count, vcpus, vcpuWord, affinity, running}
+use Rattle.model.specs.Sound.{fits, usedBits, allowedBits, wordOk, isCount, setup, unused, vcpuOk, sound, stopped}
+use Rattle.model.proofs.Tests.{both, and-true, either, every-at, every-all, below-at, below-all}
+
+pub record Sound (s : List ℕ) : Type 0 where
+  pub size : length s ≡ stateLength
+  pub set-up : setup (initialised s) (count s) (vcpus s) ≡ true
+  pub each-vcpu : (v : ℕ) → v < vcpus s → vcpuOk s v ≡ true
+  pub each-word : (k : ℕ) → k < stateLength → wordOk (initialised s) (count s) (vcpus s) k (word s k) ≡ true
+
+pub open-sound : (s : List ℕ) → sound s ≡ true → Sound s
+unfolding sound
+open-sound s e =
+    let a = both (eqb (length s) stateLength) _ e in
+    let b = both (setup (initialised s) (count s) (vcpus s)) (allBelow (vcpuOk s) (vcpus s) && every (wordOk (initialised s) (count s) (vcpus s)) 0 s) (a .1) in
+    let c = both (allBelow (vcpuOk s) (vcpus s)) (every (wordOk (initialised s) (count s) (vcpus s)) 0 s) (b .1) in
+    let l : length s ≡ stateLength = eqb-true (length s) stateLength (a .0) in
+    record {
+      size = l;
+      set-up = b .0;
+      each-vcpu = below-at (vcpuOk s) (vcpus s) (c .0);
+      each-word = λ k h. every-at (wordOk (initialised s) (count s) (vcpus s)) s (c .1) k (omega arith);
+    }
+
+pub close-sound : (s : List ℕ) → Sound s → sound s ≡ true
+unfolding sound
+close-sound s h =
+    let l = h .size in
+    and-true (eq-eqb _ _ (h .size))
+    (and-true (h .set-up)
+    (and-true (below-all (vcpuOk s) (vcpus s) (h .each-vcpu))
+    (every-all (wordOk (initialised s) (count s) (vcpus s)) s (λ k q. h .each-word k (omega arith)))))
+
+-- a sound state has the right length
+pub sound-length : (s : List ℕ) → sound s ≡ true → length s ≡ stateLength
+sound-length s e = open-sound s e .size
+
+-- ---- the set-up of an initialised device
+
+pub record Count (c : ℕ) : Type 0 where
+  pub least : 64 ≤ c
+  pub most : c ≤ 1024
+  pub step : c % 32 ≡ 0
+
+pub is-count : (c : ℕ) → isCount c ≡ true → Count c
+unfolding isCount
+is-count c e =
+    let a = both (leb 64 c && leb c 1024) (eqb (c % 32) 0) e in
+    let b = both (leb 64 c) (leb c 1024) (a .0) in
+    record { least = leb-true 64 c (b .0); most = leb-true c 1024 (b .1); step = eqb-true (c % 32) 0 (a .1) }
+
+module _ (i c n : ℕ) (e : setup i c n ≡ true) where
+  parts : ((leb i 1 ≡ true) × (leb n mostVcpus ≡ true)) × ((eqb c 0 || isCount c) ≡ true) × ((eqb i 0 || (isCount c && leb 1 n)) ≡ true)
+  unfolding setup
+  parts =
+      let a = both (leb i 1 && leb n mostVcpus && (eqb c 0 || isCount c)) (eqb i 0 || (isCount c && leb 1 n)) e in
+      let b = both (leb i 1 && leb n mostVcpus) (eqb c 0 || isCount c) (a .0) in
+      (both (leb i 1) (leb n mostVcpus) (b .0), b .1, a .1)
+
+  pub setup-mark : i ≤ 1
+  setup-mark = leb-true i 1 (parts .0 .0)
+
+  pub setup-vcpus : n ≤ 8
+  setup-vcpus = leb-true n mostVcpus (parts .0 .1)
+
+  used : i ≡ 1 → (isCount c && leb 1 n) ≡ true
+  used q = ⊎-elim (λ z. absurd (omega (arith, eqb-true i 0 z))) (λ z. z) (either (eqb i 0) (isCount c && leb 1 n) (parts .2))
+
+  pub setup-count : i ≡ 1 → Count c
+  setup-count q = is-count c (both (isCount c) (leb 1 n) (used q) .0)
+
+  pub setup-some : i ≡ 1 → 1 ≤ n
+  setup-some q = leb-true 1 n (both (isCount c) (leb 1 n) (used q) .1)
+
+-- ---- a sound, initialised device: its numbers, and the bits that each word may have
+
+pub record Ready (s : List ℕ) : Type 0 where
+  pub size : length s ≡ stateLength
+  pub mark : initialised s ≡ 1
+  pub counted : Count (count s)
+  pub some : 1 ≤ vcpus s
+  pub few : vcpus s ≤ 8
+  pub each-vcpu : (v : ℕ) → v < vcpus s → vcpuOk s v ≡ true
+  pub used : (k : ℕ) → k < stateLength → fits (word s k) (usedBits (count s) (vcpus s) k) ≡ true
+
+pub ready : (s : List ℕ) → sound s ≡ true → initialised s ≡ 1 → Ready s
+unfolding wordOk allowedBits
+ready s e i =
+    let h = open-sound s e in
+    record {
+      size = h .size;
+      mark = i;
+      counted = setup-count _ _ _ (h .set-up) i;
+      some = setup-some _ _ _ (h .set-up) i;
+      few = setup-vcpus _ _ _ (h .set-up);
+      each-vcpu = h .each-vcpu;
+      used = λ k l. rw i at (h .each-word k l);
+    }
+
+-- ---- a stopped one
+
+pub stopped-mark : (s : List ℕ) → stopped s ≡ true → initialised s ≡ 1
+unfolding stopped
+stopped-mark s e = eqb-true (initialised s) 1 (both (eqb (initialised s) 1) (allBelow (λ v. eqb (running s v) 0) (vcpus s)) e .0)
+
+pub stopped-running : (s : List ℕ) → stopped s ≡ true → (v : ℕ) → v < vcpus s → running s v ≡ 0
+unfolding stopped
+stopped-running s e v l =
+    eqb-true (running s v) 0 (below-at (λ u. eqb (running s u) 0) (vcpus s) (both (eqb (initialised s) 1) (allBelow (λ u. eqb (running s u) 0) (vcpus s)) e .1) v l)
+
+-- ---- what a vCPU has
+
+pub record Vcpu (s : List ℕ) (v : ℕ) : Type 0 where
+  pub edges : vcpuWord s v 13 ≡ 0xffff
+  pub bpr0 : 2 ≤ vcpuWord s v 21
+  pub bpr1 : 3 ≤ vcpuWord s v 22
+  pub distinct : (u : ℕ) → u < v → not (eqb (affinity s u) (affinity s v)) ≡ true
+
+pub open-vcpu : (s : List ℕ) (v : ℕ) → vcpuOk s v ≡ true → Vcpu s v
+unfolding vcpuOk unused
+open-vcpu s v e =
+    let a = both (eqb (vcpuWord s v 13) 0xffff && leb 2 (vcpuWord s v 21) && leb 3 (vcpuWord s v 22)) (unused s (affinity s v) v) e in
+    let b = both (eqb (vcpuWord s v 13) 0xffff && leb 2 (vcpuWord s v 21)) (leb 3 (vcpuWord s v 22)) (a .0) in
+    let c = both (eqb (vcpuWord s v 13) 0xffff) (leb 2 (vcpuWord s v 21)) (b .0) in
+    record {
+      edges = eqb-true _ _ (c .0);
+      bpr0 = leb-true 2 _ (c .1);
+      bpr1 = leb-true 3 _ (b .1);
+      distinct = below-at (λ u. not (eqb (affinity s u) (affinity s v))) v (a .1);
+    }
+
+pub close-vcpu : (s : List ℕ) (v : ℕ) → Vcpu s v → vcpuOk s v ≡ true
+unfolding vcpuOk unused
+close-vcpu s v h =
+    and-true (and-true (and-true (eq-eqb _ _ (h .edges)) (le-leb 2 _ (h .bpr0))) (le-leb 3 _ (h .bpr1)))
+    (below-all (λ u. not (eqb (affinity s u) (affinity s v))) v (h .distinct))
