@@ -23,11 +23,11 @@ use Rattle.model.proofs.Places.{fieldOf, storedAt, field-small, stored-
 
 -- ---- the bits that a word may have, region by region
 
-entry-there : (b : Bool) (bits : List ℕ) (j : ℕ) → b ≡ true → entry b bits j ≡ getD bits j 0
+pub entry-there : (b : Bool) (bits : List ℕ) (j : ℕ) → b ≡ true → entry b bits j ≡ getD bits j 0
 unfolding entry
 entry-there b bits j e = rw e
 
-entry-absent : (b : Bool) (bits : List ℕ) (j : ℕ) → b ≡ false → entry b bits j ≡ 0
+pub entry-absent : (b : Bool) (bits : List ℕ) (j : ℕ) → b ≡ false → entry b bits j ≡ 0
 unfolding entry
 entry-absent b bits j e = rw e
 
@@ -240,7 +240,7 @@ module _ (s : List ℕ) (h : Ready s) where
   below : {a : Attribute} (l : Listed s a) → word s (placeOf l) < 2 ^ 32
   below l = fits-lt (word s (placeOf l)) (usedBits (count s) (vcpus s) (placeOf l)) (h .used (placeOf l) (place-inside l))
 
-  edge-words : (w j : ℕ) → SpiWord s w → j < 2 → word s (256 + 16 * w + (13 + j)) < 2 ^ 16
+  pub edge-words : (w j : ℕ) → SpiWord s w → j < 2 → word s (256 + 16 * w + (13 + j)) < 2 ^ 16
   edge-words w j q l = go (decLt w 31)
     where
       in-table : (i : ℕ) → i < 2 → (getD bankBits (13 + i) 0 ≤ 0xffff) × (getD lastBankBits (13 + i) 0 ≤ 0xffff)
@@ -290,10 +290,10 @@ pub record Carried (t : List ℕ) (p : ℕ) (k : Shape) (a : Attribute) : Type 0
   pub shape : shapeOf there ≡ k
 
 module _ (s t : List ℕ) (same : Alike s t) where
-  spi-of : (w : ℕ) → SpiWord s w → SpiWord t w
+  pub spi-of : (w : ℕ) → SpiWord s w → SpiWord t w
   spi-of w q = record { low = q .low; high = rw (same .same-count) (q .high) }
 
-  vcpu-of : (v : ℕ) → v < vcpus s → v < vcpus t
+  pub vcpu-of : (v : ℕ) → v < vcpus s → v < vcpus t
   vcpu-of v l = rw (same .same-number) l
 
   of-vcpu : (v g a : ℕ) {p : ℕ} {k : Shape} → v < vcpus s → Carried t p k (attr g (ofVcpu t v a)) → Carried t p k (attr g (ofVcpu s v a))

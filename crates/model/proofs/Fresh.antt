@@ -15,7 +15,7 @@ use Rattle.model.specs.Layout.{stateLength, word, initialised, count, vc
 use Rattle.model.specs.Sound.{headerBits, blockBits, freshHeaderBits, freshBlockBits, entry, usedBits, freshBits, allowedBits, fits, wordOk, isCount, setup, unused, vcpuOk, sound, fresh}
 use Rattle.model.specs.Calls.{made, initialisedNext, isInitialised}
 use Rattle.model.proofs.Tests.{both, and-true, or-right, every-at, every-all, below-at, below-all}
-use Rattle.model.proofs.Within.{fits-bit, fits-lt, fits-none, fits-within, bits-fit, none-within}
+use Rattle.model.proofs.Within.{fits-none, fits-within, bits-fit, none-within, wider}
 use Rattle.model.proofs.Soundness.{Sound, open-sound, close-sound, setup-vcpus, Vcpu, open-vcpu, close-vcpu, is-count}
 
 -- just made: all zero
@@ -24,10 +24,6 @@ unfolding sound made setup isCount every wordOk allowedBits freshBits entry fits
 made-sound = refl
 
 -- ---- a fresh device is sound
-
--- what fits a mask fits a wider one
-wider : (w m u : ℕ) → fits w m ≡ true → within 32 m u ≡ true → fits w u ≡ true
-wider w m u a b = bits-fit w u (fits-lt w m a) (λ i l e. fits-bit m u i (fits-within m u ∙ b) (fits-bit w m i a e))
 
 -- entry by entry, the fresh masks lie within those of an initialised device
 header-wider : allBelow (λ j. within 32 (getD freshHeaderBits j 0) (getD headerBits j 0)) 16 ≡ true

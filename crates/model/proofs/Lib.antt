@@ -13,5 +13,6 @@ pub mod Readings
 pub mod Listed
 pub mod Places
 pub mod Cover
+pub mod Puts
 pub mod Rows
 pub mod Worked

@@ -298,7 +298,7 @@ roomOf itself = 2 ^ 32
 roomOf edges = 2 ^ 16
 roomOf (above c) = 2 ^ 32
 
-spread-bit : (w i : ℕ) → i < 16 → bit (spread w) (2 * i + 1) ≡ bit w i
+pub spread-bit : (w i : ℕ) → i < 16 → bit (spread w) (2 * i + 1) ≡ bit w i
 unfolding spread
 spread-bit w i l =
     let r : (2 * i + 1) % 2 ≡ 1 = omega arith in

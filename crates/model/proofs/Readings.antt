@@ -122,15 +122,15 @@ module _ (s : List ℕ) (h : Ready s) where
 
   -- ---- what a word of 32 flags reads
 
-  fits-word : (k : ℕ) → k < stateLength → word s k < 2 ^ 32
+  pub fits-word : (k : ℕ) → k < stateLength → word s k < 2 ^ 32
   fits-word k l = fits-lt (word s k) (usedBits (count s) (vcpus s) k) (h .used k l)
 
-  bank-at : (v w : ℕ) → 1 ≤ w → bank v w ≡ 256 + 16 * w
+  pub bank-at : (v w : ℕ) → 1 ≤ w → bank v w ≡ 256 + 16 * w
   bank-at v zero l = absurd (omega arith)
   bank-at v (suc w) l = refl
 
   -- the flag of interrupt 32 w + i is bit i of the bank's word
-  flag-bit : (v w k i : ℕ) → i < 32 → flag k s v (32 * w + i) ≡ bit (word s (bank v w + k)) i
+  pub flag-bit : (v w k i : ℕ) → i < 32 → flag k s v (32 * w + i) ≡ bit (word s (bank v w + k)) i
   flag-bit v w k i l =
       let d : (32 * w + i) / 32 ≡ w = omega arith in
       let r : (32 * w + i) % 32 ≡ i = omega arith in
@@ -156,11 +156,11 @@ module _ (s : List ℕ) (h : Ready s) where
       ∙ rw b
 
   -- the private ones: lines are the PPIs'
-  private : (i : ℕ) → i < 32 → isPrivate (32 * 0 + i) ≡ true
+  pub private : (i : ℕ) → i < 32 → isPrivate (32 * 0 + i) ≡ true
   unfolding isPrivate
   private i l = lt-ltb (32 * 0 + i) 32 (omega arith)
 
-  block-word : (v j : ℕ) → v < vcpus s → j < 27 → fits (word s (block v + j)) (getD blockBits j 0) ≡ true
+  pub block-word : (v j : ℕ) → v < vcpus s → j < 27 → fits (word s (block v + j)) (getD blockBits j 0) ≡ true
   unfolding usedBits entry
   block-word v j l m =
       let d : (block v + j - 16) / 32 ≡ v = omega arith in
@@ -174,26 +174,28 @@ module _ (s : List ℕ) (h : Ready s) where
       reads-word (Frame v) k 0 0 (fits-word (block v + k) (omega (arith, h .few)))
       (λ i n e. and-true (private i n) (le-leb 0 (32 * 0 + i) (omega arith)))
 
+  -- a line that is set is a PPI's
+  pub line-ppi : (v : ℕ) → v < vcpus s → (i : ℕ) → i < 32 → bit (word s (block v + 4)) i ≡ true → leb 16 (32 * 0 + i) ≡ true
+  line-ppi v l i n e = le-leb 16 (32 * 0 + i) (go (decLt i 16))
+    where
+      low16 : allBelow (λ j. not (bit 0xffff0000 j)) 16 ≡ true
+      low16 = unfold allBelow bit in refl
+
+      go : Dec (i < 16) → 16 ≤ 32 * 0 + i
+      go (yes r) =
+          absurd (not-both (bit 0xffff0000 i) (fits-bit (word s (block v + 4)) 0xffff0000 i (block-word v 4 l (omega arith)) e)
+          (not-true (bit 0xffff0000 i) (below-at (λ j. not (bit 0xffff0000 j)) 16 low16 i r)))
+      go (no r) = omega arith
+
   pub reads-private-lines : (v : ℕ) → v < vcpus s → readFlags s (Frame v) 4 16 Flag 0 ≡ word s (block v + 4)
   unfolding has seenBy
   reads-private-lines v l =
-      reads-word (Frame v) 4 16 0 (fits-word (block v + 4) (omega (arith, h .few)))
-      (λ i n e. and-true (private i n) (le-leb 16 (32 * 0 + i) (high i n (fits-bit (word s (block v + 4)) 0xffff0000 i (block-word v 4 l (omega arith)) e))))
-    where
-      high : (i : ℕ) → i < 32 → bit 0xffff0000 i ≡ true → 16 ≤ 32 * 0 + i
-      high i n e = go (decLt i 16)
-        where
-          low16 : allBelow (λ j. not (bit 0xffff0000 j)) 16 ≡ true
-          low16 = unfold allBelow bit in refl
-
-          go : Dec (i < 16) → 16 ≤ 32 * 0 + i
-          go (yes r) = absurd (not-both (bit 0xffff0000 i) e (not-true (bit 0xffff0000 i) (below-at (λ j. not (bit 0xffff0000 j)) 16 low16 i r)))
-          go (no r) = omega arith
+      reads-word (Frame v) 4 16 0 (fits-word (block v + 4) (omega (arith, h .few))) (λ i n e. and-true (private i n) (line-ppi v l i n e))
 
   -- ---- what a word of four priorities reads
 
   -- the bit of a priority is a bit of the bank's word
-  priority-bit : (v w j i : ℕ) → j < 8 → i < 32 → bit (priority s v (4 * (8 * w + j) + i / 8)) (i % 8) ≡ bit (word s (bank v w + 5 + j)) i
+  pub priority-bit : (v w j i : ℕ) → j < 8 → i < 32 → bit (priority s v (4 * (8 * w + j) + i / 8)) (i % 8) ≡ bit (word s (bank v w + 5 + j)) i
   priority-bit v w j i l m =
       let d : (4 * (8 * w + j) + i / 8) / 32 ≡ w = omega arith in
       let r : (4 * (8 * w + j) + i / 8) % 32 / 4 ≡ j = omega arith in

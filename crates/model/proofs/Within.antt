@@ -99,3 +99,7 @@ bits-fit w m l h = fits-within w m ∙ bits-within 32 w m l h
 -- no bit may stand there: the word is 0
 pub fits-none : (w : ℕ) → fits w 0 ≡ true → w ≡ 0
 fits-none w e = omega (arith, fits-le w 0 e)
+
+-- what fits a mask fits a wider one
+pub wider : (w m u : ℕ) → fits w m ≡ true → within 32 m u ≡ true → fits w u ≡ true
+wider w m u a b = bits-fit w u (fits-lt w m a) (λ i l e. fits-bit m u i (fits-within m u ∙ b) (fits-bit w m i a e))

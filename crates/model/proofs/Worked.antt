@@ -4,7 +4,7 @@ use mathlib.Core.Path.{_≡_, refl}
 use mathlib.Core.Bool.{Bool, true, false}
 use mathlib.Core.List.{List, [], _∷_, _++_}
 use lib.IntN.{ℤ, pos, negsuc}
-use lib.ListN.{replicate, set}
+use lib.ListN.{replicate, take}
 use Rattle.model.specs.Record.{groups, encode}
 use Rattle.model.specs.Calls.{Call, make, addVcpu, setRunning, changeLine, querySignal, readDistributor, writeDistributor, readFrame, writeFrame, readSystem, writeSystem, getAttribute, setAttribute, save, restore}
 use Rattle.model.proofs.Rows.{Row, answer, hands, keeps, same, unmet}
@@ -135,14 +135,38 @@ record76 =
     ∷ []
 
 -- document 01's session of twenty lines, after make
+abbrev sessionCalls : List Call
+sessionCalls =
+    make ∷ irqs 0x40 ∷ addVcpu 0 ∷ init ∷ run ∷ sr 0xc660 ∷ dw 0 2 ∷ dw 0x84 0x80 ∷ dw 0x424 0xa0000000 ∷ dw 0x104 0x80 ∷ sw 0xc667 1
+    ∷ sw 0xc230 0xa8 ∷ changeLine 0 0x27 true ∷ querySignal 0 ∷ sr 0xc660 ∷ dr 0x204 ∷ sr 0xc65b ∷ sw 0xc661 0x27 ∷ querySignal 0
+    ∷ changeLine 0 0x27 false ∷ querySignal 0 ∷ []
+
 abbrev session : List Row
 session =
-    answer (make ∷ irqs 0x40 ∷ addVcpu 0 ∷ init ∷ run ∷ sr 0xc660 ∷ dw 0 2 ∷ dw 0x84 0x80 ∷ dw 0x424 0xa0000000 ∷ dw 0x104 0x80 ∷ sw 0xc667 1
-        ∷ sw 0xc230 0xa8 ∷ changeLine 0 0x27 true ∷ querySignal 0 ∷ sr 0xc660 ∷ dr 0x204 ∷ sr 0xc65b ∷ sw 0xc661 0x27 ∷ querySignal 0
-        ∷ changeLine 0 0x27 false ∷ querySignal 0 ∷ [])
+    answer sessionCalls
         (ok ∷ ok ∷ ok ∷ ok ∷ ok ∷ pos 0x3ff ∷ ok ∷ ok ∷ ok ∷ ok ∷ ok
         ∷ ok ∷ ok ∷ pos 1 ∷ pos 0x27 ∷ pos 0x80 ∷ pos 0xa0 ∷ ok ∷ pos 1
         ∷ ok ∷ ok ∷ [])
+    ∷ []
+
+-- the record of the session's device after its acknowledge: the latch is 0 and the line 1. Restored, it reads and behaves so
+abbrev busyRecord : List ℕ
+busyRecord =
+    0x01 ∷ 0x40 ∷ 0x01 ∷ 0x00 ∷ 0x52 ∷ 0x00
+    ∷ 0x80 ∷ 0x01 ∷ 0x80 ∷ 0x01 ∷ 0x00 ∷ 0x80 ∷ 0x01 ∷ 0x80 ∷ 0x01 ∷ 0x00 ∷ 0x80 ∷ 0x80 ∷ 0x80 ∷ 0x80 ∷ 0x0a
+    ∷ (replicate 54 0 ++ (0xa8 ∷ 0x01 ∷ 0x80 ∷ 0x08 ∷ 0x02 ∷ 0x03 ∷ 0x00 ∷ 0x80 ∷ 0x80 ∷ 0x40 ∷ 0x00 ∷ 0x01 ∷ []))
+
+abbrev busy : List Row
+busy =
+    hands (take 15 sessionCalls ++ (stop ∷ [])) (save (replicate 100 7)) busyRecord
+    ∷ answer (device 64 ++ (stop ∷ restore busyRecord ∷ getAttribute 1 0x84 ∷ getAttribute 1 0x204 ∷ getAttribute 1 0x304 ∷ getAttribute 7 32 ∷ getAttribute 1 0x424
+        ∷ getAttribute 6 0xc648 ∷ restore busyRecord ∷ run ∷ dr 0x204 ∷ sr 0xc65b ∷ sw 0xc661 39 ∷ querySignal 0 ∷ []))
+        (deviceOk ++ (ok ∷ ok ∷ pos 0x80 ∷ ok ∷ pos 0x80 ∷ pos 0x80 ∷ pos 0xa0000000
+        ∷ pos 0x00100000 ∷ no 17 ∷ ok ∷ pos 0x80 ∷ pos 0xa0 ∷ ok ∷ pos 1 ∷ []))
+    -- another version, count, number of vCPUs or affinity; a missing number; a BPR0 that no device reads
+    ∷ answer (device 64 ++ (stop ∷ restore (2 ∷ []) ∷ restore (1 ∷ 0x60 ∷ []) ∷ restore (1 ∷ 0x40 ∷ 2 ∷ []) ∷ restore (1 ∷ 0x40 ∷ 1 ∷ 1 ∷ []) ∷ restore (1 ∷ 0x40 ∷ 1 ∷ 0 ∷ 0x50 ∷ [])
+        ∷ restore (take 70 freshRecord ++ (1 ∷ [])) ∷ restore [] ∷ []))
+        (deviceOk ++ (ok ∷ no 22 ∷ no 22 ∷ no 22 ∷ no 22 ∷ no 74 ∷ no 22 ∷ no 74 ∷ []))
     ∷ []
 
 -- at count 1024 the IDs 1020 to 1023 do not exist
@@ -178,7 +202,7 @@ refusals =
 
 pub table : List Row
 table =
-    p1 ++ (p2 ++ (p3 ++ (p4 ++ (p5 3 (pos 40) ∷ p5 5 (pos 40) ∷ p5 6 (pos 1023) ∷ (p6 ++ (p7 ++ (p8 ++ (record76 ++ (session ++ (absent ++ (lines ++ refusals)))))))))))
+    p1 ++ (p2 ++ (p3 ++ (p4 ++ (p5 3 (pos 40) ∷ p5 5 (pos 40) ∷ p5 6 (pos 1023) ∷ (p6 ++ (p7 ++ (p8 ++ (record76 ++ (session ++ (busy ++ (absent ++ (lines ++ refusals))))))))))))
 
 pub worked : unmet (replicate 1760 7) 1 table ≡ 0
 unfolding unmet table groups encode

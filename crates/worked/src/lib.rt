@@ -1,0 +1,1 @@
+// Sessions of calls, computed through the definitions of model. There is nothing to run.
