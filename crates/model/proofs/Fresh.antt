@@ -13,7 +13,7 @@ use lib.Seq.{getD-set-same, getD-set-other}
 use Rattle.model.specs.Words.{bit, within, every, allBelow}
 use Rattle.model.specs.Layout.{stateLength, word, initialised, count, vcpus, vcpuWord, affinity}
 use Rattle.model.specs.Sound.{headerBits, blockBits, freshHeaderBits, freshBlockBits, entry, usedBits, freshBits, allowedBits, fits, wordOk, isCount, setup, unused, vcpuOk, sound, fresh}
-use Rattle.model.specs.Calls.{made, initialisedNext, isInitialised}
+use Rattle.model.specs.Calls.{made, initialisedNext}
 use Rattle.model.proofs.Tests.{both, and-true, or-right, every-at, every-all, below-at, below-all}
 use Rattle.model.proofs.Within.{fits-none, fits-within, bits-fit, none-within, wider}
 use Rattle.model.proofs.Soundness.{Sound, open-sound, close-sound, setup-vcpus, Vcpu, open-vcpu, close-vcpu, is-count}

@@ -9,10 +9,10 @@ use borrow.Author.Tests.{ltb-true}
 use lib.Dec.{eqb, ltb}
 use lib.IntN.{pos, negℤ}
 use Rattle.model.specs.Words.{bit, lowest}
-use Rattle.model.specs.Layout.{word, vcpuWord, running}
-use Rattle.model.specs.Interface.{system, best, nothing, found, rankPriority, aprAt, groupPriority, runningLevel, ofGroup, gives, offered, levelOf, levelClear, systemReadClear}
-use Rattle.model.specs.Refusals.{Check, Refusal, none, refuse, first, errno}
-use Rattle.model.specs.Calls.{readSystem, given, acceptable, guestChecks, readChecks, checks, isInitialised, isVcpu, refusal, call}
+use Rattle.model.specs.Layout.{word, isInitialised, pmrAt, aprAt, running}
+use Rattle.model.specs.Interface.{system, best, nothing, found, rankPriority, groupPriority, runningLevel, ofGroup, gives, offered, levelOf, levelClear, systemReadClear}
+use Rattle.model.specs.Refusals.{Check, Refusal, none, refuse, firstFailing, errno}
+use Rattle.model.specs.Calls.{readSystem, lends, acceptable, guestChecks, readChecks, checks, isVcpu, refusal, call}
 use Rattle.model.specs.declared.Errno.{Errno}
 use Rattle.model.specs.declared.Errno.the-variants.{Eperm, Enxio, Efault, Ebusy, Einval}
 use Rattle.model.specs.declared.Readable.{Readable}
@@ -43,7 +43,7 @@ module _ (s : List ℕ) (v g b : ℕ) where
   below-running e =
       let h : groupPriority s v g (rankPriority b) < 8 * runningLevel s v =
       ltb-true (groupPriority s v g (rankPriority b)) (8 * runningLevel s v)
-      (both (ofGroup s v g b && ltb (rankPriority b) (vcpuWord s v 19)) (ltb (groupPriority s v g (rankPriority b)) (8 * runningLevel s v)) e .1) in
+      (both (ofGroup s v g b && ltb (rankPriority b) (word s (pmrAt v))) (ltb (groupPriority s v g (rankPriority b)) (8 * runningLevel s v)) e .1) in
       omega arith
 
   both-clear : gives s v g b ≡ true → (bit (word s (aprAt v 0)) (levelOf s v g b) ≡ false) × (bit (word s (aprAt v 1)) (levelOf s v g b) ≡ false)
@@ -95,19 +95,19 @@ other-none k e h q = let z : _≡_ {A = ℕ} 0 1 = cc in omega arith
 other-refuse : (k : ℕ) (n : Errno) → (errno n ≡ k → ⊥) → Other k (refuse n)
 other-refuse k n h e q l = let same : n ≡ e = cc in h (rw same l)
 
-other-next : (k : ℕ) (b : Bool) (n : Errno) (cs : List Check) → (errno n ≡ k → ⊥) → Other k (first cs) → Other k (first ((b, n) ∷ cs))
-unfolding first
+other-next : (k : ℕ) (b : Bool) (n : Errno) (cs : List Check) → (errno n ≡ k → ⊥) → Other k (firstFailing cs) → Other k (firstFailing ((b, n) ∷ cs))
+unfolding firstFailing
 other-next k true n cs h o = o
 other-next k false n cs h o = other-refuse k n h
 
-read-other : (s : List ℕ) (v : ℕ) (r : SystemRegister) → groupIn r < 2 → Other 5 (first (readChecks r v s))
-unfolding readChecks first errno
+read-other : (s : List ℕ) (v : ℕ) (r : SystemRegister) → groupIn r < 2 → Other 5 (firstFailing (readChecks r v s))
+unfolding readChecks firstFailing errno
 read-other s v (Both p) h = other-none 5
 read-other s v (Read r) h = rw (read-clear s v r h) (other-none 5)
 read-other s v (Write w) h = other-refuse 5 Enxio (omega arith)
 read-other s v Unnamed h = other-refuse 5 Enxio (omega arith)
 
-checks-other : (v e : ℕ) (s : List ℕ) → Other 5 (first (checks (readSystem v e) s))
+checks-other : (v e : ℕ) (s : List ℕ) → Other 5 (firstFailing (checks (readSystem v e) s))
 unfolding checks guestChecks errno
 checks-other v e s =
     other-next 5 (isInitialised s) Ebusy _ (omega arith)
@@ -115,9 +115,9 @@ checks-other v e s =
 
 refusal-other : (v e : ℕ) (s : List ℕ) → Other 5 (refusal (readSystem v e) s)
 unfolding refusal errno
-refusal-other v e s = step (acceptable (given (readSystem v e)) s)
+refusal-other v e s = step (acceptable (lends (readSystem v e)) s)
   where
-    step : (t : Bool) → Other 5 (elim t [ true ↦ first (checks (readSystem v e) s) | false ↦ refuse Efault ])
+    step : (t : Bool) → Other 5 (elim t [ true ↦ firstFailing (checks (readSystem v e) s) | false ↦ refuse Efault ])
     step true = checks-other v e s
     step false = other-refuse 5 Efault (omega arith)
 

@@ -4,6 +4,7 @@ use mathlib.Core.Path.{_≡_, refl, sym, ap, _∙_, subst}
 use mathlib.Core.Bool.{Bool, true, false, not, cond, _&&_, true≢false}
 use mathlib.Core.List.{List, [], _∷_}
 use mathlib.Core.Logic.{_⊎_, inl, inr, ⊎-elim}
+use native.Mathlib.Nat.{mod-eq-of-lt}
 use native.Mathlib.Decide.{ℕ-discrete, decLt}
 use native.Mathlib.Omega.{arith}
 use borrow.Author.Tests.{eqb-true, eq-eqb, ne-eqb, lt-ltb, le-ltb, not-true}
@@ -32,7 +33,7 @@ use Rattle.model.proofs.Bits.{bit-gather, word-is}
 use Rattle.model.proofs.Tests.{not-both}
 use Rattle.model.proofs.Soundness.{Ready, Vcpu, open-vcpu}
 use Rattle.model.proofs.Decode.{decode-group, decode-set-enable, decode-set-pending, decode-set-active, decode-priority, decode-config, decode-route, decode-control, decode-status, decode-frame-priority, decode-frame-status, decode-frame-group, decode-frame-set-enable, decode-frame-set-pending, decode-frame-set-active}
-use Rattle.model.proofs.Readings.{SpiWord, spread, reads-spi-flags, reads-private-flags, reads-private-lines, reads-spi-priority, reads-private-priority, reads-spi-config, reads-route}
+use Rattle.model.proofs.Readings.{SpiWord, fits-word, spread, reads-spi-flags, reads-private-flags, reads-private-lines, reads-spi-priority, reads-private-priority, reads-spi-config, reads-route}
 use Rattle.model.proofs.Listed.{Kept, groups, enables, latches, actives, offsetOf, Stored, pmr, ctlr, bpr0, bpr1, ap0r, ap1r, igrpen0, igrpen1, encodingOf, Listed, control, status, spi-flags, spi-lines, spi-priority, spi-config, spi-route, vcpu-status, vcpu-flags, vcpu-lines, vcpu-priority, vcpu-system}
 
 -- ---- the place, and how the word there is shown
@@ -166,6 +167,12 @@ module _ (s : List ℕ) (h : Ready s) where
       lowest-is (λ u. eqb (affinity s u) (affinity s v)) (vcpus s) 0 v (omega arith) (omega arith) (eq-eqb (affinity s v) (affinity s v) refl)
       (λ u m. not-true _ (open-vcpu s v (h .each-vcpu v l) .distinct u m))
 
+  -- the parts of an attribute's number of vCPU v
+  vcpu-parts : (v a : ℕ) → v < vcpus s → a < 2 ^ 32 → (low (ofVcpu s v a) ≡ a) × (high (ofVcpu s v a) ≡ affinity s v)
+  vcpu-parts v a q l =
+      let d : ofVcpu s v a / 2 ^ 32 ≡ affinity s v = omega arith in
+      (omega arith, ap (λ (x : ℕ). x % 2 ^ 32) d ∙ mod-eq-of-lt (fits-word s h (block v + 16) (omega (arith, h .few))))
+
   -- attributes of the distributor, of a frame, of a CPU interface
   in-distributor : (off k : ℕ) (r : Register) → off < 2 ^ 32 → off % 4 ≡ 0 → decode (rows Distributor) off ≡ decoded.Listed r k → itemOf (attr 1 off) s ≡ Mapped Distributor r k
   unfolding itemOf itemIn groupOf item mapped mappedItem
@@ -177,17 +184,14 @@ module _ (s : List ℕ) (h : Ready s) where
       → itemOf (attr 5 (ofVcpu s v off)) s ≡ Mapped (Frame v) r k
   unfolding itemOf itemIn groupOf item mapped mappedItem
   in-frame v off k r q l m e =
-      let z : low (ofVcpu s v off) ≡ off = omega arith in
-      let y : high (ofVcpu s v off) ≡ affinity s v = omega arith in
-      rw (z, y, index-of v q, m, e)
+      let z = vcpu-parts v off q l in
+      rw (z .0, z .1, index-of v q, m, e)
 
   in-interface : (v : ℕ) (p : Stored) → v < vcpus s → itemOf (attr 6 (ofVcpu s v (encodingOf p))) s ≡ System v (plainOf p)
   unfolding itemOf itemIn groupOf item systemItem
   in-interface v p q =
-      let small : encodingOf p < 2 ^ 32 = small-encoding p in
-      let z : low (ofVcpu s v (encodingOf p)) ≡ encodingOf p = omega arith in
-      let y : high (ofVcpu s v (encodingOf p)) ≡ affinity s v = omega arith in
-      rw (z, y, index-of v q, names p)
+      let z = vcpu-parts v (encodingOf p) q (small-encoding p) in
+      rw (z .0, z .1, index-of v q, names p)
     where
       small-encoding : (o : Stored) → encodingOf o < 2 ^ 32
       small-encoding pmr = omega arith
@@ -253,9 +257,8 @@ module _ (s : List ℕ) (h : Ready s) where
     where
       in-lines : itemOf (attr 7 (ofVcpu s v 0)) s ≡ Mapped (Frame v) (Bits Lines) 0
       in-lines = unfold itemOf itemIn groupOf item in
-          (let z : low (ofVcpu s v 0) ≡ 0 = omega arith in
-          let y : high (ofVcpu s v 0) ≡ affinity s v = omega arith in
-          rw (z, y, index-of v l))
+          (let z = vcpu-parts v 0 l (omega arith) in
+          rw (z .0, z .1, index-of v l))
   names-item (vcpu-priority v j l m) = in-frame v (0x10400 + 4 * j) j Priority l (omega arith) (omega arith) (decode-frame-priority v j m)
   names-item (vcpu-system v p l) = in-interface v p l
 

@@ -12,9 +12,9 @@ use lib.Dec.{eqb, ltb, leb}
 use lib.ListN.{getD, set}
 use Rattle.model.specs.Words.{bit, gather, within, allBelow}
 use Rattle.model.specs.Layout.{stateLength, word, count, vcpus, block, bank, routeAt}
-use Rattle.model.specs.Interrupts.{isPrivate, isSpi, flag, edge}
+use Rattle.model.specs.Interrupts.{isPrivate, isSpi, flag, edge, priority}
 use Rattle.model.specs.Sound.{fits, usedBits, headerBits, blockBits, bankBits, lastBankBits}
-use Rattle.model.specs.Registers.{has, seenBy, written, writeFlags, writePriority, writeConfig, writeRoute, write, flags, ruleFor, writtenStatus, statusAt}
+use Rattle.model.specs.Registers.{has, seenBy, flagAfter, writeFlags, writePriority, writeConfig, writeRoute, write, flags, ruleFor, writtenStatus, statusAt}
 use Rattle.model.specs.Interface.{plainWrite}
 use Rattle.model.specs.Attributes.{Attribute, itemWrite}
 use Rattle.model.specs.Demands.{Alike}
@@ -26,7 +26,7 @@ use Rattle.model.proofs.Bits.{gather-same, gather-bits, word-is}
 use Rattle.model.proofs.Tests.{and-true, and-implied, not-both, below-at}
 use Rattle.model.proofs.Within.{bit-none, fits-bit, fits-lt, fits-le, fits-none, wider}
 use Rattle.model.proofs.Soundness.{Ready, open-vcpu}
-use Rattle.model.proofs.Readings.{SpiWord, spread, flag-bit, bank-at, fits-word, flag-exists, priority-exists, edge-exists, private, block-word, line-ppi}
+use Rattle.model.proofs.Readings.{SpiWord, spread, flag-bit, priority-bit, bank-at, fits-word, flag-exists, priority-exists, edge-exists, private, block-word, line-ppi}
 use Rattle.model.proofs.Listed.{Listed, groups, enables, latches, actives, Stored, pmr, ctlr, bpr0, bpr1, ap0r, ap1r, igrpen0, igrpen1, control, status, spi-flags, spi-lines, spi-priority, spi-config, spi-route, vcpu-status, vcpu-flags, vcpu-lines, vcpu-priority, vcpu-system}
 use Rattle.model.proofs.Places.{storedAt, placeOf, shown, systemShape, shapeOf, plainOf, namedBy, spread-bit}
 use Rattle.model.proofs.Cover.{entry-there, header-bits, bank-bits, last-bits, edge-words, spi-of, vcpu-of}
@@ -38,8 +38,8 @@ pub data Puts : Rule → Type 0 where
   replaces : Puts Replaces
   sets : Puts Sets
 
-written-bit : {r : Rule} → Puts r → (old b : Bool) → (old ≡ false) ⊎ (old ≡ b) → written r old b ≡ b
-unfolding written
+written-bit : {r : Rule} → Puts r → (old b : Bool) → (old ≡ false) ⊎ (old ≡ b) → flagAfter r old b ≡ b
+unfolding flagAfter
 written-bit replaces old b h = refl
 written-bit sets old b (inl e) = rw e
 written-bit sets old true (inr e) = rw e
@@ -75,7 +75,7 @@ module _ (s : List ℕ) (h : Ready s) where
   puts-flags x k from b {r} q w l before p t = ap (set s (bank (seenBy x) b + k)) (same-bits w _ l at)
     where
       at : (i : ℕ) → i < 32
-          → cond (has s x (32 * b + i) && leb from (32 * b + i)) (written r (flag k s (seenBy x) (32 * b + i)) (bit w i)) (flag k s (seenBy x) (32 * b + i)) ≡ bit w i
+          → cond (has s x (32 * b + i) && leb from (32 * b + i)) (flagAfter r (flag k s (seenBy x) (32 * b + i)) (bit w i)) (flag k s (seenBy x) (32 * b + i)) ≡ bit w i
       at i m =
           rw (flag-bit s h (seenBy x) b k i m)
           (kept-bit (has s x (32 * b + i) && leb from (32 * b + i)) (bit (word s (bank (seenBy x) b + k)) i) (bit w i)
@@ -104,10 +104,10 @@ module _ (s : List ℕ) (h : Ready s) where
       rw (d, r) (ap (set s (bank (seenBy x) b + 5 + j)) (same-bits w _ (fits-lt w 0xf8f8f8f8 f) at))
     where
       at : (i : ℕ) → i < 32
-          → cond (true && has s x (4 * (8 * b + j) + i / 8)) (leb 3 (i % 8) && bit w i) (bit (word s (bank (seenBy x) b + 5 + j)) i) ≡ bit w i
+          → cond (true && has s x (4 * (8 * b + j) + i / 8)) (leb 3 (i % 8) && bit w i) (bit (priority s (seenBy x) (4 * (8 * b + j) + i / 8)) (i % 8)) ≡ bit w i
       at i m =
-          kept-bit (has s x (4 * (8 * b + j) + i / 8)) (bit (word s (bank (seenBy x) b + 5 + j)) i) (bit w i)
-          (and-implied (leb 3 (i % 8)) (bit w i) (eights w i f m)) (p i m) (t i m)
+          rw (priority-bit s h (seenBy x) b j i l m) (kept-bit (has s x (4 * (8 * b + j) + i / 8)) (bit (word s (bank (seenBy x) b + 5 + j)) i) (bit w i)
+          (and-implied (leb 3 (i % 8)) (bit w i) (eights w i f m)) (p i m) (t i m))
 
   -- edge flags, as ICFGR reads them
   puts-config : (b j w : ℕ) → SpiWord s b → j < 2 → w < 2 ^ 16

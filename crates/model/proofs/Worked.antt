@@ -5,7 +5,7 @@ use mathlib.Core.Bool.{Bool, true, false}
 use mathlib.Core.List.{List, [], _∷_, _++_}
 use lib.IntN.{ℤ, pos, negsuc}
 use lib.ListN.{replicate, take}
-use Rattle.model.specs.Record.{groups, encode}
+use Rattle.model.specs.Record.{groupsOf, encode}
 use Rattle.model.specs.Calls.{Call, make, addVcpu, setRunning, changeLine, querySignal, readDistributor, writeDistributor, readFrame, writeFrame, readSystem, writeSystem, getAttribute, setAttribute, save, restore}
 use Rattle.model.proofs.Rows.{Row, answer, hands, keeps, same, unmet}
 
@@ -205,5 +205,5 @@ table =
     p1 ++ (p2 ++ (p3 ++ (p4 ++ (p5 3 (pos 40) ∷ p5 5 (pos 40) ∷ p5 6 (pos 1023) ∷ (p6 ++ (p7 ++ (p8 ++ (record76 ++ (session ++ (busy ++ (absent ++ (lines ++ refusals))))))))))))
 
 pub worked : unmet (replicate 1760 7) 1 table ≡ 0
-unfolding unmet table groups encode
+unfolding unmet table groupsOf encode
 worked = refl

@@ -19,7 +19,7 @@ use Rattle.model.specs.declared.SystemRegister.the-variants.{Both, Read,
 use Rattle.model.specs.declared.RegisterGroup.{RegisterGroup}
 use Rattle.model.specs.declared.RegisterGroup.the-variants.{Distributor, Redistributor, Interface, Lines}
 use Rattle.model.specs.declared.AttributeGroup.{AttributeGroup}
-use Rattle.model.specs.declared.AttributeGroup.the-variants.{Registers, Count, Control as Initialise, Unknown}
+use Rattle.model.specs.declared.AttributeGroup.the-variants.{Registers, Count, Initialise, Unknown}
 use Rattle.model.specs.declared.Item.{Item}
 use Rattle.model.specs.declared.Item.the-variants.{Mapped, System, Nameless}
 
@@ -35,7 +35,7 @@ groupOf g =
 
 -- ---- the parts of an attribute's number: bits 63-32 and bits 31-0
 abbrev pub high : ℕ → ℕ
-high a = a / 2 ^ 32
+high a = a / 2 ^ 32 % 2 ^ 32
 
 abbrev pub low : ℕ → ℕ
 low a = a % 2 ^ 32
@@ -47,18 +47,18 @@ indexOf s a = lowest (λ v. eqb (affinity s v) a) (vcpus s) 0
 -- ---- what is asked of the number
 
 -- group 7: bits 31-10 are 0 and bits 9-0 a multiple of 32
-unfoldable pub shaped : RegisterGroup → ℕ → Bool
-shaped Distributor a = true
-shaped Redistributor a = true
-shaped Interface a = true
-shaped Lines a = eqb (low a / 1024) 0 && eqb (low a % 1024 % 32) 0
+unfoldable pub numberOk : RegisterGroup → ℕ → Bool
+numberOk Distributor a = true
+numberOk Redistributor a = true
+numberOk Interface a = true
+numberOk Lines a = eqb (low a / 1024) 0 && eqb (low a % 1024 % 32) 0
 
 -- groups 5, 6, and 7 below ID 32: bits 63-32 are a vCPU's affinity
-unfoldable pub placed : RegisterGroup → ℕ → List ℕ → Bool
-placed Distributor a s = true
-placed Redistributor a s = ltb (indexOf s (high a)) (vcpus s)
-placed Interface a s = ltb (indexOf s (high a)) (vcpus s)
-placed Lines a s = cond (ltb (low a) 32) (ltb (indexOf s (high a)) (vcpus s)) true
+unfoldable pub affinityKnown : RegisterGroup → ℕ → List ℕ → Bool
+affinityKnown Distributor a s = true
+affinityKnown Redistributor a s = ltb (indexOf s (high a)) (vcpus s)
+affinityKnown Interface a s = ltb (indexOf s (high a)) (vcpus s)
+affinityKnown Lines a s = cond (ltb (low a) 32) (ltb (indexOf s (high a)) (vcpus s)) true
 
 -- ---- what it names
 
@@ -70,7 +70,7 @@ mappedItem x Unlisted = Nameless
 unfoldable pub mapped : View → ℕ → Item
 mapped x off = cond (eqb (off % 4) 0) (mappedItem x (decode (rows x) off)) Nameless
 
--- bits 31-16 are 0 in every encoding
+-- group 6: bits 31-0 are the encoding; each listed one is below 2^16, so bits 31-16 not 0 is unknown
 unfoldable pub systemItem : ℕ → SystemRegister → Item
 systemItem v (Both p) = System v p
 systemItem v (Read r) = Nameless

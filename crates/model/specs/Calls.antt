@@ -7,14 +7,14 @@ use lib.Dec.{eqb, ltb, leb}
 use lib.IntN.{ℤ, pos, negsuc}
 use lib.ListN.{length, set, take, replicate}
 use Rattle.model.specs.Words.{val}
-use Rattle.model.specs.Layout.{stateLength, mostVcpus, initialised, count, vcpus, block, running}
+use Rattle.model.specs.Layout.{stateLength, mostVcpus, isInitialised, count, vcpus, block, runningAt, running}
 use Rattle.model.specs.Interrupts.{isPpi, isSpi}
 use Rattle.model.specs.Sound.{sound, stopped, fresh, isCount, isAffinity, unused}
-use Rattle.model.specs.Refusals.{Check, Refusal, none, refuse, first, number}
+use Rattle.model.specs.Refusals.{Check, Refusal, none, refuse, firstFailing, number}
 use Rattle.model.specs.Registers.{guestRead, guestWrite}
 use Rattle.model.specs.Lines.{lineChanged}
 use Rattle.model.specs.Interface.{system, signal, plainRead, plainWrite, systemRead, systemReadNext, systemReadClear, systemWrite}
-use Rattle.model.specs.Attributes.{groupOf, shaped, placed, item, known, takes, itemRead, itemWrite}
+use Rattle.model.specs.Attributes.{groupOf, numberOk, affinityKnown, item, known, takes, itemRead, itemWrite}
 use Rattle.model.specs.Record.{recordOf, saved, restored, faults, loadedState}
 use Rattle.model.specs.declared.Errno.{Errno}
 use Rattle.model.specs.declared.Errno.the-variants.{Eperm, Eio, Enxio, Enomem, Efault, Ebusy, Eexist, Enodev, Einval, Enospc}
@@ -25,9 +25,10 @@ use Rattle.model.specs.declared.SystemRegister.{SystemRegister}
 use Rattle.model.specs.declared.SystemRegister.the-variants.{Both, Read, Write, Unnamed}
 use Rattle.model.specs.declared.RegisterGroup.{RegisterGroup}
 use Rattle.model.specs.declared.AttributeGroup.{AttributeGroup}
-use Rattle.model.specs.declared.AttributeGroup.the-variants.{Registers, Count, Control as Initialise, Unknown}
+use Rattle.model.specs.declared.AttributeGroup.the-variants.{Registers, Count, Initialise, Unknown}
 
--- numbers and lent buffers are the caller's; a guest's access names the vCPU that makes it, and a size in bytes
+-- The numbers are any numbers and the buffers any bytes: the caller's. Where the code has a width it is 64 bits, so that no number of the page is cut
+-- before it is tested. A guest's access names the vCPU that makes it, and a size in bytes.
 pub data Call : Type 0 where
   make : Call
   -- affinity
@@ -56,42 +57,39 @@ pub data Call : Type 0 where
 
 -- ---- refusals
 
--- what a call is given: any buffer for a state, a device, a device and a buffer to fill, a device and a record to read
-pub data Given : Type 0 where
-  space device : Given
-  room recording : List ℕ → Given
+-- what a call is lent: words of any content, a device's words, a device's words with a buffer to fill, or with a record to read
+pub data Lent : Type 0 where
+  anyState aDevice : Lent
+  aBuffer aRecord : List ℕ → Lent
 
-unfoldable pub given : Call → Given
-given make = space
-given (addVcpu a) = device
-given (setRunning v on) = device
-given (changeLine v id level) = device
-given (querySignal v) = device
-given (readDistributor v off size) = device
-given (writeDistributor v off size x) = device
-given (readFrame v f off size) = device
-given (writeFrame v f off size x) = device
-given (readSystem v e) = device
-given (writeSystem v e x) = device
-given (getAttribute g a) = device
-given (setAttribute g a x) = device
-given (save buf) = room buf
-given (restore bytes) = recording bytes
+unfoldable pub lends : Call → Lent
+lends make = anyState
+lends (addVcpu a) = aDevice
+lends (setRunning v on) = aDevice
+lends (changeLine v id level) = aDevice
+lends (querySignal v) = aDevice
+lends (readDistributor v off size) = aDevice
+lends (writeDistributor v off size x) = aDevice
+lends (readFrame v f off size) = aDevice
+lends (writeFrame v f off size x) = aDevice
+lends (readSystem v e) = aDevice
+lends (writeSystem v e x) = aDevice
+lends (getAttribute g a) = aDevice
+lends (setAttribute g a x) = aDevice
+lends (save buf) = aBuffer buf
+lends (restore bytes) = aRecord bytes
 
 -- EFAULT comes first everywhere: the state is not sound; for making a device, of wrong length
-unfoldable pub acceptable : Given → List ℕ → Bool
-acceptable space s = eqb (length s) stateLength
-acceptable device s = sound s
-acceptable (room buf) s = sound s
-acceptable (recording bytes) s = sound s
-
-abbrev pub isInitialised : List ℕ → Bool
-isInitialised s = eqb (initialised s) 1
+unfoldable pub acceptable : Lent → List ℕ → Bool
+acceptable anyState s = eqb (length s) stateLength
+acceptable aDevice s = sound s
+acceptable (aBuffer buf) s = sound s
+acceptable (aRecord bytes) s = sound s
 
 abbrev pub isVcpu : List ℕ → ℕ → Bool
 isVcpu s v = ltb v (vcpus s)
 
--- guest access: no such vCPU or frame; not running
+-- guest access: not initialised; no such vCPU or frame; not running
 unfoldable pub guestChecks : ℕ → List ℕ → List Check
 guestChecks v s = (isInitialised s, Ebusy) ∷ (isVcpu s v, Einval) ∷ (eqb (running s v) 1, Eperm) ∷ []
 
@@ -112,12 +110,12 @@ writeChecks (Write w) = []
 writeChecks Unnamed = (false, Enxio) ∷ []
 
 -- an SPI line ignores the index
-unfoldable pub lineMet : List ℕ → ℕ → ℕ → Bool
-lineMet s v id = cond (isPpi id) (isVcpu s v) (isSpi s id)
+unfoldable pub hasLine : List ℕ → ℕ → ℕ → Bool
+hasLine s v id = cond (isPpi id) (isVcpu s v) (isSpi s id)
 
 -- groups 1, 5, 6, 7
 unfoldable pub registerChecks : RegisterGroup → ℕ → List ℕ → List Check
-registerChecks q a s = (shaped q a, Einval) ∷ (placed q a s, Einval) ∷ (stopped s, Ebusy) ∷ (known (item q a s), Enxio) ∷ []
+registerChecks q a s = (numberOk q a, Einval) ∷ (affinityKnown q a s, Einval) ∷ (stopped s, Ebusy) ∷ (known (item q a s), Enxio) ∷ []
 
 unfoldable pub getChecks : AttributeGroup → ℕ → List ℕ → List Check
 getChecks (Registers q) a s = registerChecks q a s
@@ -136,7 +134,7 @@ unfoldable pub checks : Call → List ℕ → List Check
 checks make s = []
 checks (addVcpu a) s = (not (isInitialised s), Ebusy) ∷ (isAffinity a, Einval) ∷ (unused s a (vcpus s), Eexist) ∷ (ltb (vcpus s) mostVcpus, Enomem) ∷ []
 checks (setRunning v on) s = (isInitialised s, Ebusy) ∷ (isVcpu s v, Einval) ∷ []
-checks (changeLine v id level) s = (isInitialised s, Ebusy) ∷ (lineMet s v id, Einval) ∷ []
+checks (changeLine v id level) s = (isInitialised s, Ebusy) ∷ (hasLine s v id, Einval) ∷ []
 checks (querySignal v) s = (isInitialised s, Ebusy) ∷ (isVcpu s v, Einval) ∷ []
 checks (readDistributor v off size) s = guestChecks v s
 checks (writeDistributor v off size x) s = guestChecks v s
@@ -150,7 +148,7 @@ checks (save buf) s = (stopped s, Ebusy) ∷ (leb (length (recordOf s)) (length 
 checks (restore bytes) s = (stopped s, Ebusy) ∷ (fresh s, Eexist) ∷ faults (restored s bytes)
 
 unfoldable pub refusal : Call → List ℕ → Refusal
-refusal c s = elim (acceptable (given c) s) [ true ↦ first (checks c s) | false ↦ refuse Efault ]
+refusal c s = elim (acceptable (lends c) s) [ true ↦ firstFailing (checks c s) | false ↦ refuse Efault ]
 
 -- ---- what a call that is not refused answers: all but reads, queries and save answer 0
 
@@ -218,7 +216,7 @@ setState Unknown a x s = s
 unfoldable pub next : Call → List ℕ → List ℕ
 next make s = made
 next (addVcpu a) s = vcpuAdded s (vcpus s) a
-next (setRunning v on) s = set s (block v + 17) (val on)
+next (setRunning v on) s = set s (runningAt v) (val on)
 next (changeLine v id level) s = lineChanged s v id level
 next (querySignal v) s = s
 next (readDistributor v off size) s = s
@@ -234,17 +232,17 @@ next (restore bytes) s = loadedState s (restored s bytes)
 
 -- ---- the lent buffer, and what it holds after a call that is not refused
 
-unfoldable pub lent : Given → List ℕ
-lent space = []
-lent device = []
-lent (room buf) = buf
-lent (recording bytes) = bytes
+unfoldable pub lentBytes : Lent → List ℕ
+lentBytes anyState = []
+lentBytes aDevice = []
+lentBytes (aBuffer buf) = buf
+lentBytes (aRecord bytes) = bytes
 
-unfoldable pub filled : Given → List ℕ → List ℕ
-filled space s = []
-filled device s = []
-filled (room buf) s = saved s buf
-filled (recording bytes) s = bytes
+unfoldable pub filled : Lent → List ℕ → List ℕ
+filled anyState s = []
+filled aDevice s = []
+filled (aBuffer buf) s = saved s buf
+filled (aRecord bytes) s = bytes
 
 -- ---- a call
 
@@ -255,8 +253,8 @@ pub record Outcome : Type 0 where
 
 -- a refused call changes nothing
 unfoldable pub settle : Refusal → Call → List ℕ → Outcome
-settle none c s = record { answer = number (Value (value c s)); state = next c s; buffer = filled (given c) s }
-settle (refuse e) c s = record { answer = number (Refused e); state = s; buffer = lent (given c) }
+settle none c s = record { answer = number (Value (value c s)); state = next c s; buffer = filled (lends c) s }
+settle (refuse e) c s = record { answer = number (Refused e); state = s; buffer = lentBytes (lends c) }
 
 unfoldable pub call : Call → List ℕ → Outcome
 call c s = settle (refusal c s) c s
@@ -274,6 +272,12 @@ pub record Does (o : Outcome) (r : ℤ) (t : List ℕ) (b : List ℕ) : Type 0 w
   pub answer : r ≡ o .answer
   pub state : t ≡ o .state
   pub buffer : b ≡ o .buffer
+
+-- what save promises its caller: the number left in a lent number, the words, and the part of the buffer that it hands back
+pub record Saves (o : Outcome) (r : ℤ) (t : List ℕ) (front : List ℕ) : Type 0 where
+  pub answer : r ≡ o .answer
+  pub state : t ≡ o .state
+  pub front-part : front ≡ handedBack o
 
 -- ---- lists of calls: each call gets the state that the last one left
 

@@ -9,8 +9,8 @@ use lib.IntN.{ℤ, pos, negsuc}
 use lib.ListN.{length}
 use Rattle.model.specs.Layout.{count, vcpus, affinity}
 use Rattle.model.specs.Sound.{sound, stopped, fresh}
-use Rattle.model.specs.Attributes.{Attribute}
-use Rattle.model.specs.Record.{listed, recordOf}
+use Rattle.model.specs.Attributes.{Attribute, attr, itemOf}
+use Rattle.model.specs.Record.{listed, attributeOf, entryRead, recordOf}
 use Rattle.model.specs.Calls.{Call, getAttribute, setAttribute, save, restore, Outcome, call, handedBack, after, trace}
 
 -- the first device: sound, initialised, no vCPU running
@@ -29,25 +29,25 @@ pub record Alike (s t : List ℕ) : Type 0 where
   pub same-number : vcpus t ≡ vcpus s
   pub same-affinities : (v : ℕ) → v < vcpus s → affinity t v ≡ affinity s v
 
--- a put sets a listed attribute to what get answers for it on the first device
-pub data Put (from : List ℕ) : Call → Type 0 where
-  puts : (a : Attribute) (v : ℕ) → List·Memᴰ a (listed from) → call (getAttribute (a .group) (a .number)) from .answer ≡ pos v
-      → Put from (setAttribute (a .group) (a .number) v)
+-- A put of the listed attribute a sets it to what get answers for it on the first device. Bits 63-32 are ignored in group 1 and from ID 32 on in
+-- group 7, so a number that names the same register serves as well.
+pub data Put (from : List ℕ) (a : Attribute) : Call → Type 0 where
+  puts : (n v : ℕ) → itemOf (attr (a .group) n) from ≡ itemOf a from → call (getAttribute (a .group) n) from .answer ≡ pos v → Put from a (setAttribute (a .group) n v)
 
--- what the list may hold, made at the state s: a put, a get, or an attribute call that is refused there
+-- what the list may hold, made at the state s: a put of a listed attribute, a get, or an attribute call that is refused there
 pub data Allowed (from s : List ℕ) : Call → Type 0 where
-  put : {c : Call} → Put from c → Allowed from s c
+  put : {a : Attribute} {c : Call} → List·Memᴰ a (listed from) → Put from a c → Allowed from s c
   get : (g a : ℕ) → Allowed from s (getAttribute g a)
   refused : (g a v e : ℕ) → call (setAttribute g a v) s .answer ≡ negsuc e → Allowed from s (setAttribute g a v)
 
--- such a list, made at the state s on: each call gets the state that the last one left
+-- such a list, made from the state s on: each call gets the state that the last one left
 pub data Restoring (from : List ℕ) : List ℕ → List Call → Type 0 where
   none : {s : List ℕ} → Restoring from s []
   one : {s : List ℕ} {c : Call} {cs : List Call} → Allowed from s c → Restoring from (call c s .state) cs → Restoring from s (c ∷ cs)
 
 -- with every listed attribute put
 pub record Whole (from : List ℕ) (cs : List Call) : Type 0 where
-  pub each : (a : Attribute) → List·Memᴰ a (listed from) → (v : ℕ) × Put from (setAttribute (a .group) (a .number) v) × List·Memᴰ (setAttribute (a .group) (a .number) v) cs
+  pub put-each : (a : Attribute) → List·Memᴰ a (listed from) → (c : Call) × Put from a c × List·Memᴰ c cs
 
 -- equal, and for ever after alike: every list of later calls, of every kind, each with its numbers and buffers, gives the same outcomes on both.
 -- An outcome is the answer, every word of the state and every byte of the lent buffer; what is handed back follows from it.
@@ -57,7 +57,8 @@ pub record Same (s t : List ℕ) : Type 0 where
 
 -- each put answers 0, and the list leaves the first device's state
 pub record ByAttributes (from to : List ℕ) (cs : List Call) : Type 0 where
-  pub answers : (before : List Call) (c : Call) (rest : List Call) → cs ≡ before ++ c ∷ rest → Put from c → call c (after before to) .answer ≡ pos 0
+  pub answers : (before : List Call) (a : Attribute) (c : Call) (rest : List Call) → cs ≡ before ++ c ∷ rest → List·Memᴰ a (listed from) → Put from a c
+      → call c (after before to) .answer ≡ pos 0
   pub same : Same from (after cs to)
 
 -- save of the first succeeds and leaves it as it was; restore of what it hands back succeeds and leaves the first device's state
@@ -67,7 +68,12 @@ pub record ByRecord (from to buf : List ℕ) : Type 0 where
   pub answers : call (restore (handedBack (call (save buf) from))) to .answer ≡ pos 0
   pub same : Same from (call (restore (handedBack (call (save buf) from))) to .state)
 
+-- For a stopped first device: get answers each of its listed attributes, with the value that its record has. For every fresh second one of the same
+-- set-up: by attributes, and by a record in any buffer that is no shorter than it.
+pub record Restores (from : List ℕ) : Type 0 where
+  pub gets : (a : Attribute) → List·Memᴰ a (listed from) → call (getAttribute (a .group) (a .number)) from .answer ≡ pos (entryRead from (attributeOf a))
+  pub by-attributes : (to : List ℕ) → Fresh to → Alike from to → (cs : List Call) → Restoring from to cs → Whole from cs → ByAttributes from to cs
+  pub by-record : (to : List ℕ) → Fresh to → Alike from to → (buf : List ℕ) → length (recordOf from) ≤ length buf → ByRecord from to buf
+
 abbrev pub Demand3 : Type 0
-Demand3 = (from to : List ℕ) → Stopped from → Fresh to → Alike from to
-    → ((cs : List Call) → Restoring from to cs → Whole from cs → ByAttributes from to cs)
-    × ((buf : List ℕ) → length (recordOf from) ≤ length buf → ByRecord from to buf)
+Demand3 = (from : List ℕ) → Stopped from → Restores from

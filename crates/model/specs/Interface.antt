@@ -5,8 +5,8 @@ use mathlib.Core.List.{List, [], _∷_}
 use lib.Dec.{eqb, ltb}
 use lib.ListN.{set}
 use Rattle.model.specs.Words.{val, bit, withBit, lowest}
-use Rattle.model.specs.Layout.{word, count, vcpus, block, vcpuWord, affinity}
-use Rattle.model.specs.Interrupts.{isPrivate, exists, group, enabled, active, priority, route, pending, setFlag}
+use Rattle.model.specs.Layout.{word, count, vcpus, enablesAt, affinity, pmrAt, ctlrAt, bprAt, aprAt, igrpenAt}
+use Rattle.model.specs.Interrupts.{isPrivate, idsBelow, isSpi, exists, group, enabled, active, priority, route, pending, setFlag}
 use Rattle.model.specs.declared.Plain.{Plain}
 use Rattle.model.specs.declared.Plain.the-variants.{Pmr, Bpr, Apr, Ctlr, Sre, Igrpen}
 use Rattle.model.specs.declared.Readable.{Readable}
@@ -58,12 +58,12 @@ system e = systemIn systemRows e
 -- ---- the plain registers
 
 unfoldable pub plainRead : List ℕ → ℕ → Plain → ℕ
-plainRead s v Pmr = vcpuWord s v 19
-plainRead s v (Bpr g) = vcpuWord s v (21 + g)
-plainRead s v (Apr g) = vcpuWord s v (23 + g)
-plainRead s v Ctlr = 0x400 + vcpuWord s v 20
+plainRead s v Pmr = word s (pmrAt v)
+plainRead s v (Bpr g) = word s (bprAt v g)
+plainRead s v (Apr g) = word s (aprAt v g)
+plainRead s v Ctlr = 0x400 + word s (ctlrAt v)
 plainRead s v Sre = 7
-plainRead s v (Igrpen g) = vcpuWord s v (25 + g)
+plainRead s v (Igrpen g) = word s (igrpenAt v g)
 
 -- BPR0's least value is 2, BPR1's 3
 abbrev pub leastBpr : ℕ → ℕ
@@ -71,12 +71,12 @@ leastBpr g = 2 + g
 
 -- PMR keeps bits 7-3, BPRs bits 2-0 raised to their least, APs bits 31-0, IGRPEN bit 0; of CTLR bit 1 is written; SRE ignores writes
 unfoldable pub plainWrite : List ℕ → ℕ → Plain → ℕ → List ℕ
-plainWrite s v Pmr x = set s (block v + 19) (x % 256 / 8 * 8)
-plainWrite s v (Bpr g) x = set s (block v + (21 + g)) (max (leastBpr g) (x % 8))
-plainWrite s v (Apr g) x = set s (block v + (23 + g)) (x % 2 ^ 32)
-plainWrite s v Ctlr x = set s (block v + 20) (x / 2 % 2 * 2)
+plainWrite s v Pmr x = set s (pmrAt v) (x % 256 / 8 * 8)
+plainWrite s v (Bpr g) x = set s (bprAt v g) (max (leastBpr g) (x % 8))
+plainWrite s v (Apr g) x = set s (aprAt v g) (x % 2 ^ 32)
+plainWrite s v Ctlr x = set s (ctlrAt v) (x / 2 % 2 * 2)
 plainWrite s v Sre x = s
-plainWrite s v (Igrpen g) x = set s (block v + (25 + g)) (x % 2)
+plainWrite s v (Igrpen g) x = set s (igrpenAt v g) (x % 2)
 
 -- by attribute, a value that CTLR or SRE never reads is refused
 unfoldable pub plainTakes : Plain → ℕ → Bool
@@ -90,16 +90,16 @@ plainTakes (Igrpen g) x = true
 -- ---- candidates and the best
 
 -- its own private, or an SPI routed to its affinity
-unfoldable pub mine : List ℕ → ℕ → ℕ → Bool
-mine s v id = isPrivate id || eqb (route s id) (affinity s v)
+unfoldable pub ownOrRouted : List ℕ → ℕ → ℕ → Bool
+ownOrRouted s v id = isPrivate id || (isSpi s id && eqb (route s id) (affinity s v))
 
 -- group g is enabled in distributor and CPU interface
 unfoldable pub groupOn : List ℕ → ℕ → ℕ → Bool
-groupOn s v g = bit (word s 3) g && bit (vcpuWord s v (25 + g)) 0
+groupOn s v g = bit (word s enablesAt) g && bit (word s (igrpenAt v g)) 0
 
 -- pending, enabled, not active, its group enabled in distributor and CPU interface
 unfoldable pub candidate : List ℕ → ℕ → ℕ → Bool
-candidate s v id = mine s v id && pending s v id && enabled s v id && not (active s v id) && groupOn s v (val (group s v id))
+candidate s v id = ownOrRouted s v id && pending s v id && enabled s v id && not (active s v id) && groupOn s v (val (group s v id))
 
 -- An interrupt as one number, priority first and then ID: the least is the least ID among those of least priority.
 -- `nothing` stands behind every interrupt: its priority is 256 and its ID is 1023.
@@ -130,19 +130,16 @@ scan s v (suc n) id b = scan s v n (suc id) (better s v id b)
 
 -- the least ID among those of least priority, of the interrupts that exist: those below the count and below 1020
 unfoldable pub best : List ℕ → ℕ → ℕ
-best s v = scan s v (min (count s) 1020) 0 nothing
+best s v = scan s v (idsBelow (count s)) 0 nothing
 
--- ---- group priority: low bits cleared, BPR0 + 1 of them for group 0, BPR1 for group 1
-unfoldable pub cleared : List ℕ → ℕ → ℕ → ℕ
-cleared s v g = cond (eqb g 0) (vcpuWord s v 21 + 1) (vcpuWord s v 22)
+-- ---- group priority: low bits clearedBits, BPR0 + 1 of them for group 0, BPR1 for group 1
+unfoldable pub clearedBits : List ℕ → ℕ → ℕ → ℕ
+clearedBits s v g = cond (eqb g 0) (word s (bprAt v 0) + 1) (word s (bprAt v 1))
 
 unfoldable pub groupPriority : List ℕ → ℕ → ℕ → ℕ → ℕ
-groupPriority s v g p = p / 2 ^ cleared s v g * 2 ^ cleared s v g
+groupPriority s v g p = p / 2 ^ clearedBits s v g * 2 ^ clearedBits s v g
 
 -- ---- the running level: the lowest set bit of the two, 32 when idle; AP bit k stands for priority 8k
-abbrev pub aprAt : ℕ → ℕ → ℕ
-aprAt v g = block v + (23 + g)
-
 unfoldable pub runningLevel : List ℕ → ℕ → ℕ
 runningLevel s v = lowest (λ k. bit (word s (aprAt v 0)) k || bit (word s (aprAt v 1)) k) 32 0
 
@@ -156,9 +153,9 @@ runningPriority s v = cond (ltb (runningLevel s v) 32) (8 * runningLevel s v) 25
 unfoldable pub ofGroup : List ℕ → ℕ → ℕ → ℕ → Bool
 ofGroup s v g b = found b && eqb (val (group s v (rankId b))) g
 
--- IARg gives the best b: of group g, its priority below PMR, its group priority below the running one (idle: always below)
+-- IARg gives the best b: of group g, its priority below PMR, its group priority below the running one (idle: 8 x 32 is above every priority)
 unfoldable pub gives : List ℕ → ℕ → ℕ → ℕ → Bool
-gives s v g b = ofGroup s v g b && ltb (rankPriority b) (vcpuWord s v 19) && ltb (groupPriority s v g (rankPriority b)) (8 * runningLevel s v)
+gives s v g b = ofGroup s v g b && ltb (rankPriority b) (word s (pmrAt v)) && ltb (groupPriority s v g (rankPriority b)) (8 * runningLevel s v)
 
 -- what IARg would give, as a rank
 unfoldable pub offered : List ℕ → ℕ → ℕ → ℕ
@@ -171,7 +168,7 @@ levelOf s v g b = groupPriority s v g (rankPriority b) / 8
 unfoldable pub setLevel : Bool → ℕ → ℕ → ℕ → List ℕ → List ℕ
 setLevel t v g level s = set s (aprAt v g) (withBit (word s (aprAt v g)) level t)
 
--- acknowledging b: it is made active, its latch cleared, its group priority's bit set in APgR
+-- acknowledging b: it is made active, its latch clearedBits, its group priority's bit set in APgR
 unfoldable pub taken : List ℕ → ℕ → ℕ → ℕ → List ℕ
 taken s v g b = setLevel true v g (levelOf s v g b) (setFlag 2 false v (rankId b) (setFlag 3 true v (rankId b) s))
 
@@ -193,9 +190,9 @@ signal s v = cond (found (offered s v 1)) 1 (cond (found (offered s v 0)) 2 0)
 -- ---- end of interrupt, deactivate
 
 abbrev pub eoiMode : List ℕ → ℕ → Bool
-eoiMode s v = bit (vcpuWord s v 20) 1
+eoiMode s v = bit (word s (ctlrAt v)) 1
 
--- nothing if no such interrupt, or if APgR lacks the running level; else that bit is cleared and, in EOImode 0, the interrupt made inactive
+-- nothing if no such interrupt, or if APgR lacks the running level; else that bit is clearedBits and, in EOImode 0, the interrupt made inactive
 unfoldable pub ended : List ℕ → ℕ → ℕ → ℕ → List ℕ
 ended s v g id =
     let level = runningLevel s v in

@@ -17,8 +17,11 @@ unfoldable pub isPpi : ℕ → Bool
 isPpi id = leb 16 id && ltb id 32
 
 -- SPIs are from 32 to below the count and below 1020
+abbrev pub idsBelow : ℕ → ℕ
+idsBelow c = min c 1020
+
 unfoldable pub isSpi : List ℕ → ℕ → Bool
-isSpi s id = leb 32 id && ltb id (min (count s) 1020)
+isSpi s id = leb 32 id && ltb id (idsBelow (count s))
 
 unfoldable pub exists : List ℕ → ℕ → Bool
 exists s id = isPrivate id || isSpi s id

@@ -13,7 +13,9 @@
 -- A bank is 16 words for 32 interrupts: + 0 group, + 1 enabled, + 2 latch, + 3 active, + 4 line (a bit each), + 5 to + 12 priorities (a byte each),
 -- + 13 edge flags of the first 16, + 14 of the last 16, + 15 zero.
 use Prim.Native.Nat.{ℕ, zero, suc, _+_, _*_}
+use mathlib.Core.Bool.{Bool}
 use mathlib.Core.List.{List}
+use lib.Dec.{eqb}
 use lib.ListN.{getD}
 
 abbrev pub stateLength : ℕ
@@ -29,11 +31,21 @@ word s at = getD s at 0
 abbrev pub initialised : List ℕ → ℕ
 initialised s = word s 0
 
+abbrev pub isInitialised : List ℕ → Bool
+isInitialised s = eqb (initialised s) 1
+
 abbrev pub count : List ℕ → ℕ
 count s = word s 1
 
 abbrev pub vcpus : List ℕ → ℕ
 vcpus s = word s 2
+
+-- the places of the distributor's group enables and of its STATUSR
+abbrev pub enablesAt : ℕ
+enablesAt = 3
+
+abbrev pub distributorStatusAt : ℕ
+distributorStatusAt = 4
 
 -- ---- the block of vCPU v
 abbrev pub block : ℕ → ℕ
@@ -45,8 +57,30 @@ vcpuWord s v j = word s (block v + j)
 abbrev pub affinity : List ℕ → ℕ → ℕ
 affinity s v = vcpuWord s v 16
 
+abbrev pub runningAt : ℕ → ℕ
+runningAt v = block v + 17
+
 abbrev pub running : List ℕ → ℕ → ℕ
-running s v = vcpuWord s v 17
+running s v = word s (runningAt v)
+
+-- the places of its other words; a number g is the interrupt group
+abbrev pub frameStatusAt : ℕ → ℕ
+frameStatusAt v = block v + 18
+
+abbrev pub pmrAt : ℕ → ℕ
+pmrAt v = block v + 19
+
+abbrev pub ctlrAt : ℕ → ℕ
+ctlrAt v = block v + 20
+
+abbrev pub bprAt : ℕ → ℕ → ℕ
+bprAt v g = block v + (21 + g)
+
+abbrev pub aprAt : ℕ → ℕ → ℕ
+aprAt v g = block v + (23 + g)
+
+abbrev pub igrpenAt : ℕ → ℕ → ℕ
+igrpenAt v g = block v + (25 + g)
 
 -- ---- the bank of the interrupts 32 w to 32 w + 31, as vCPU v sees it
 abbrev pub bank : ℕ → ℕ → ℕ

@@ -1,11 +1,12 @@
 -- The record: seven-bit numbers, the listed attributes in order, save, restore.
-use Prim.Native.Nat.{ℕ, zero, suc, _+_, _*_, _-_, _/_, _%_, _^_, min}
+use Prim.Native.Nat.{ℕ, zero, suc, _+_, _*_, _-_, _/_, _%_, _^_}
 use mathlib.Core.Bool.{Bool, true, false, cond, _&&_}
 use mathlib.Core.List.{List, [], _∷_, _++_, map}
 use lib.Dec.{eqb, ltb, leb}
 use lib.ListN.{length, drop}
 use Rattle.model.specs.Words.{each}
 use Rattle.model.specs.Layout.{count, vcpus, affinity}
+use Rattle.model.specs.Interrupts.{idsBelow}
 use Rattle.model.specs.Attributes.{Attribute, attr, itemOf, itemRead, itemWrite, takes}
 use Rattle.model.specs.Refusals.{Check}
 use Rattle.model.specs.declared.Errno.{Errno}
@@ -14,29 +15,29 @@ use Rattle.model.specs.declared.Errno.the-variants.{Einval, Ebadmsg}
 -- ---- numbers in seven-bit groups, lowest first, high bit meaning more, shortest form, at most 2^32 - 1
 
 -- the groups of n, at most k + 1 of them
-unfoldable pub groups : ℕ → ℕ → List ℕ
-groups zero n = n ∷ []
-groups (suc k) n = elim (ltb n 128) [ true ↦ n ∷ [] | false ↦ (n % 128 + 128) ∷ groups k (n / 128) ]
+unfoldable pub groupsOf : ℕ → ℕ → List ℕ
+groupsOf zero n = n ∷ []
+groupsOf (suc k) n = elim (ltb n 128) [ true ↦ n ∷ [] | false ↦ (n % 128 + 128) ∷ groupsOf k (n / 128) ]
 
 -- a number below 2^32 has at most five
 unfoldable pub encode : ℕ → List ℕ
-encode n = groups 4 n
+encode n = groupsOf 4 n
 
 -- what stands at the front of some bytes: a number and the bytes after it, or no number
 pub data Number : Type 0 where
-  value : ℕ → List ℕ → Number
+  decoded : ℕ → List ℕ → Number
   broken : Number
 
 -- the byte b, and more after it: what follows is not 0, or the form were not the shortest, and the whole is at most 2^32 - 1
 unfoldable pub more : ℕ → Number → Number
 more b broken = broken
-more b (value v r) = cond (ltb 0 v && ltb (b - 128 + 128 * v) (2 ^ 32)) (value (b - 128 + 128 * v) r) broken
+more b (decoded v r) = cond (ltb 0 v && ltb (b - 128 + 128 * v) (2 ^ 32)) (decoded (b - 128 + 128 * v) r) broken
 
 -- a number of at most k groups
 unfoldable pub readGroups : ℕ → List ℕ → Number
 readGroups k [] = broken
 readGroups zero (b ∷ r) = broken
-readGroups (suc k) (b ∷ r) = elim (ltb b 128) [ true ↦ value b r | false ↦ more b (readGroups k r) ]
+readGroups (suc k) (b ∷ r) = elim (ltb b 128) [ true ↦ decoded b r | false ↦ more b (readGroups k r) ]
 
 unfoldable pub decodeNumber : List ℕ → Number
 decodeNumber bytes = readGroups 5 bytes
@@ -47,7 +48,7 @@ abbrev pub spiWords : ℕ → ℕ
 spiWords c = c / 32 - 1
 
 abbrev pub spis : ℕ → ℕ
-spis c = min c 1020 - 32
+spis c = idsBelow c - 32
 
 -- bits 63-32 of an attribute of vCPU v
 abbrev pub ofVcpu : List ℕ → ℕ → ℕ → ℕ
@@ -81,7 +82,7 @@ listed s =
 
 -- a number that the set-up fixes, or a listed attribute
 pub data Entry : Type 0 where
-  setUp : ℕ → Entry
+  header : ℕ → Entry
   attributeOf : Attribute → Entry
 
 abbrev pub version : ℕ
@@ -90,20 +91,20 @@ version = 1
 -- version, count, vCPUs, each affinity, then the listed attributes
 unfoldable pub entries : List ℕ → List Entry
 entries s =
-    setUp version ∷ setUp (count s) ∷ setUp (vcpus s)
-    ∷ (each (λ v. setUp (affinity s v) ∷ []) 0 (vcpus s) ++ map attributeOf (listed s))
+    header version ∷ header (count s) ∷ header (vcpus s)
+    ∷ (each (λ v. header (affinity s v) ∷ []) 0 (vcpus s) ++ map attributeOf (listed s))
 
 -- values as attributes read
 unfoldable pub entryRead : List ℕ → Entry → ℕ
-entryRead s (setUp x) = x
+entryRead s (header x) = x
 entryRead s (attributeOf a) = itemRead s (itemOf a s)
 
-unfoldable pub written : List ℕ → List Entry → List ℕ
-written s [] = []
-written s (e ∷ es) = encode (entryRead s e) ++ written s es
+unfoldable pub entryBytes : List ℕ → List Entry → List ℕ
+entryBytes s [] = []
+entryBytes s (e ∷ es) = encode (entryRead s e) ++ entryBytes s es
 
 unfoldable pub recordOf : List ℕ → List ℕ
-recordOf s = written s (entries s)
+recordOf s = entryBytes s (entries s)
 
 -- ---- save: the filled front part; the rest keeps its bytes
 unfoldable pub saved : List ℕ → List ℕ → List ℕ
@@ -111,13 +112,14 @@ saved s buf = let r = recordOf s in r ++ drop (length r) buf
 
 -- ---- restore
 
--- some device of the target's count and affinities reads v there: the set-up's own number, or a value that a put to the target leaves to be read
+-- Some device of the target's count and affinities reads v there: for the header, v is the target's own number; for an attribute, a put of v to the
+-- target is taken and reads back as v.
 unfoldable pub readable : List ℕ → Entry → ℕ → Bool
-readable t (setUp x) v = eqb v x
+readable t (header x) v = eqb v x
 readable t (attributeOf a) v = let i = itemOf a t in takes i v && eqb (itemRead (itemWrite t i v) i) v
 
 unfoldable pub entryPut : List ℕ → Entry → ℕ → List ℕ
-entryPut s (setUp x) v = s
+entryPut s (header x) v = s
 entryPut s (attributeOf a) v = itemWrite s (itemOf a s) v
 
 pub data Loaded : Type 0 where
@@ -127,7 +129,7 @@ pub data Loaded : Type 0 where
 -- a number is taken, or the record is broken
 unfoldable pub taking : Number → (ℕ → List ℕ → Loaded) → Loaded
 taking broken f = fault Ebadmsg
-taking (value v r) f = f v r
+taking (decoded v r) f = f v r
 
 -- each number is read or faulted before the next; bytes that follow the last are a fault. t is the target, s what was put into it so far
 unfoldable pub load : List ℕ → List Entry → List ℕ → List ℕ → Loaded

@@ -36,6 +36,6 @@ pub data Refusal : Type 0 where
   refuse : Errno → Refusal
 
 -- the refusal of the first test that fails
-unfoldable pub first : List Check → Refusal
-first [] = none
-first (c ∷ cs) = elim (c .0) [ true ↦ first cs | false ↦ refuse (c .1) ]
+unfoldable pub firstFailing : List Check → Refusal
+firstFailing [] = none
+firstFailing (c ∷ cs) = elim (c .0) [ true ↦ firstFailing cs | false ↦ refuse (c .1) ]

@@ -5,7 +5,7 @@ use mathlib.Core.List.{List, [], _∷_}
 use lib.Dec.{eqb, ltb, leb}
 use lib.ListN.{set}
 use Rattle.model.specs.Words.{bit, gather}
-use Rattle.model.specs.Layout.{word, count, vcpus, block, affinity, bank, routeAt}
+use Rattle.model.specs.Layout.{word, count, vcpus, enablesAt, distributorStatusAt, frameStatusAt, affinity, bank, routeAt}
 use Rattle.model.specs.Interrupts.{isPrivate, isSpi, flag, edge, priority, route, pending}
 use Rattle.model.specs.declared.View.{View}
 use Rattle.model.specs.declared.View.the-variants.{Distributor, Frame}
@@ -125,11 +125,11 @@ shows Flag k s v id = flag k s v id
 shows Pending k s v id = pending s v id
 
 -- a flag after the bit b is written to it
-unfoldable pub written : Rule → Bool → Bool → Bool
-written Ignores old b = old
-written Replaces old b = b
-written Sets old b = old || b
-written Clears old b = old && not b
+unfoldable pub flagAfter : Rule → Bool → Bool → Bool
+flagAfter Ignores old b = old
+flagAfter Replaces old b = b
+flagAfter Sets old b = old || b
+flagAfter Clears old b = old && not b
 
 -- ---- which interrupts a view has: in the distributor IDs below 32 and absent IDs read 0 and ignore writes
 unfoldable pub has : List ℕ → View → ℕ → Bool
@@ -162,8 +162,8 @@ abbrev pub iidr : ℕ
 iidr = 0x01001000
 
 unfoldable pub statusAt : View → ℕ
-statusAt Distributor = 4
-statusAt (Frame v) = block v + 18
+statusAt Distributor = distributorStatusAt
+statusAt (Frame v) = frameStatusAt v
 
 -- index x 256, + 16 for the last vCPU
 unfoldable pub frameTyper : List ℕ → ℕ → ℕ
@@ -171,7 +171,7 @@ frameTyper s v = v * 256 + cond (eqb (v + 1) (vcpus s)) 16 0
 
 unfoldable pub read : By → List ℕ → View → Register → ℕ → ℕ
 read by s x (Fixed c) k = c
-read by s x Control k = 0x50 + word s 3
+read by s x Control k = 0x50 + word s enablesAt
 read by s x Typer k = 0x02480000 + count s / 32 - 1
 read by s x Iidr k = iidr
 read by s x Status k = word s (statusAt x)
@@ -188,14 +188,14 @@ unfoldable pub writeFlags : List ℕ → View → ℕ → ℕ → Rule → ℕ �
 writeFlags s x field from rule k value =
     set s (bank (seenBy x) k + field)
     (gather 32 (λ i. cond (has s x (32 * k + i) && leb from (32 * k + i))
-    (written rule (flag field s (seenBy x) (32 * k + i)) (bit value i)) (flag field s (seenBy x) (32 * k + i))))
+    (flagAfter rule (flag field s (seenBy x) (32 * k + i)) (bit value i)) (flag field s (seenBy x) (32 * k + i))))
 
--- the bytes of the value that `taken` names are written, their low 3 bits dropped
+-- the bytes of the value that `meant` names are written, their low 3 bits dropped
 unfoldable pub writePriority : List ℕ → View → (ℕ → Bool) → ℕ → ℕ → List ℕ
-writePriority s x taken k value =
+writePriority s x meant k value =
     set s (bank (seenBy x) (k / 8) + 5 + k % 8)
-    (gather 32 (λ i. cond (taken (i / 8) && has s x (4 * k + i / 8))
-    (leb 3 (i % 8) && bit value i) (bit (word s (bank (seenBy x) (k / 8) + 5 + k % 8)) i)))
+    (gather 32 (λ i. cond (meant (i / 8) && has s x (4 * k + i / 8))
+    (leb 3 (i % 8) && bit value i) (bit (priority s (seenBy x) (4 * k + i / 8)) (i % 8))))
 
 -- the upper bit of each two is the edge flag; latch and line are kept
 unfoldable pub writeConfig : List ℕ → View → ℕ → ℕ → List ℕ
@@ -214,7 +214,7 @@ writtenStatus attribute old value = value % 16
 
 unfoldable pub write : By → List ℕ → View → Register → ℕ → ℕ → List ℕ
 write by s x (Fixed c) k value = s
-write by s x Control k value = set s 3 (value % 4)
+write by s x Control k value = set s enablesAt (value % 4)
 write by s x Typer k value = s
 write by s x Iidr k value = s
 write by s x Status k value = set s (statusAt x) (writtenStatus by (word s (statusAt x)) value)

@@ -5,7 +5,7 @@ use mathlib.Core.List.{List, [], _∷_}
 use lib.Dec.{leb, ltb, eqb}
 use lib.ListN.{length, getD}
 use Rattle.model.specs.Words.{within, every, allBelow}
-use Rattle.model.specs.Layout.{stateLength, mostVcpus, initialised, count, vcpus, vcpuWord, affinity, running}
+use Rattle.model.specs.Layout.{stateLength, mostVcpus, initialised, isInitialised, count, vcpus, vcpuWord, affinity, running}
 
 -- ---- the bits that a word may have
 
@@ -34,7 +34,8 @@ lastBankBits =
     ∷ 0xf8f8f8f8 ∷ 0xf8f8f8f8 ∷ 0xf8f8f8f8 ∷ 0xf8f8f8f8 ∷ 0xf8f8f8f8 ∷ 0xf8f8f8f8 ∷ 0xf8f8f8f8 ∷ 0
     ∷ 0xffff ∷ 0x0fff ∷ []
 
--- fresh values: all zero but the SGI edge flags, BPR0 2, BPR1 3 (`vcpuOk` has their least values), the affinity, the count and the initialised mark
+-- fresh values: all zero but the SGI edge flags, BPR0 2, BPR1 3, the affinity, the count and the initialised mark. With the least values of `vcpuOk`
+-- a BPR0 within 2 is 2, a BPR1 within 3 is 3
 abbrev pub freshHeaderBits : List ℕ
 freshHeaderBits = 0xffffffff ∷ 0xffffffff ∷ 0xffffffff ∷ []
 
@@ -49,14 +50,15 @@ freshBlockBits =
 unfoldable pub entry : Bool → List ℕ → ℕ → ℕ
 entry e bits j = cond e (getD bits j 0) 0
 
--- word k of an initialised device of a count and n vCPUs: the device's own, a vCPU's, an SPI bank's, an SPI's route
+-- word k of an initialised device of c interrupts and n vCPUs: up to 16 the device's own, up to 272 the vCPUs' blocks, up to 752 the banks of the
+-- SPIs below 992, up to 768 the last bank, up to 1756 the SPIs' routes
 unfoldable pub usedBits : ℕ → ℕ → ℕ → ℕ
-usedBits count n k =
+usedBits c n k =
     cond (ltb k 16) (entry true headerBits k)
     (cond (ltb k 272) (entry (ltb ((k - 16) / 32) n) blockBits ((k - 16) % 32))
-    (cond (ltb k 752) (entry (ltb (32 * ((k - 256) / 16)) count) bankBits ((k - 256) % 16))
-    (cond (ltb k 768) (entry (ltb 992 count) lastBankBits (k - 752))
-    (cond (ltb k 1756 && ltb (k - 736) count) 0x00ffffff 0))))
+    (cond (ltb k 752) (entry (ltb (32 * ((k - 256) / 16)) c) bankBits ((k - 256) % 16))
+    (cond (ltb k 768) (entry (ltb 992 c) lastBankBits (k - 752))
+    (cond (ltb k 1756 && ltb (k - 736) c) 0x00ffffff 0))))
 
 -- word k of a fresh device of n vCPUs
 unfoldable pub freshBits : ℕ → ℕ → ℕ
@@ -66,15 +68,15 @@ freshBits n k =
 
 -- before initialising only count, affinities and the fresh values
 unfoldable pub allowedBits : ℕ → ℕ → ℕ → ℕ → ℕ
-allowedBits zero count n k = freshBits n k
-allowedBits (suc i) count n k = usedBits count n k
+allowedBits zero c n k = freshBits n k
+allowedBits (suc i) c n k = usedBits c n k
 
--- a word has no bit, or only bits that it may have
+-- a word has only bits that it may have; 0 has none
 unfoldable pub fits : ℕ → ℕ → Bool
 fits w m = eqb w 0 || within 32 w m
 
 unfoldable pub wordOk : ℕ → ℕ → ℕ → ℕ → ℕ → Bool
-wordOk i count n k w = fits w (allowedBits i count n k)
+wordOk i c n k w = fits w (allowedBits i c n k)
 
 -- ---- the set-up: words 0, 1 and 2
 
@@ -84,7 +86,7 @@ isCount c = leb 64 c && leb c 1024 && eqb (c % 32) 0
 
 -- 0 to 8 vCPUs; a count, or none yet; after initialising a count and a vCPU
 unfoldable pub setup : ℕ → ℕ → ℕ → Bool
-setup i count n = leb i 1 && leb n mostVcpus && (eqb count 0 || isCount count) && (eqb i 0 || (isCount count && leb 1 n))
+setup i c n = leb i 1 && leb n mostVcpus && (eqb c 0 || isCount c) && (eqb i 0 || (isCount c && leb 1 n))
 
 -- ---- the vCPUs
 
@@ -109,8 +111,8 @@ sound s =
 
 -- initialised, and no vCPU runs
 unfoldable pub stopped : List ℕ → Bool
-stopped s = eqb (initialised s) 1 && allBelow (λ v. eqb (running s v) 0) (vcpus s)
+stopped s = isInitialised s && allBelow (λ v. eqb (running s v) 0) (vcpus s)
 
--- what restore asks of the words of its target: just initialised
+-- what restore asks of the words of its target, a sound state: just initialised
 unfoldable pub fresh : List ℕ → Bool
-fresh s = eqb (initialised s) 1 && every (λ k w. fits w (freshBits (vcpus s) k)) 0 s
+fresh s = isInitialised s && every (λ k w. fits w (freshBits (vcpus s) k)) 0 s

@@ -120,7 +120,7 @@ pub enum RegisterGroup {
 pub enum AttributeGroup {
     Registers(RegisterGroup),
     Count,
-    Control,
+    Initialise,
     Unknown,
 }
 

@@ -96,27 +96,27 @@ unfolding fill words changed same equal bytesLent asked agrees differs-from
     Interrupts.isPrivate Interrupts.isPpi Interrupts.isSpi Interrupts.exists Interrupts.pending Interrupts.setFlag
     Sound.entry Sound.usedBits Sound.freshBits Sound.allowedBits Sound.fits Sound.wordOk Sound.isCount Sound.setup Sound.isAffinity Sound.unused
     Sound.vcpuOk Sound.sound Sound.stopped Sound.fresh
-    Refusals.errno Refusals.number Refusals.first
-    Registers.inRow Registers.decode Registers.rows Registers.flags Registers.shownTo Registers.ruleFor Registers.shows Registers.written
+    Refusals.errno Refusals.number Refusals.firstFailing
+    Registers.inRow Registers.decode Registers.rows Registers.flags Registers.shownTo Registers.ruleFor Registers.shows Registers.flagAfter
     Registers.has Registers.seenBy Registers.readFlags Registers.readPriority Registers.readConfig Registers.readRoute Registers.statusAt
     Registers.frameTyper Registers.read Registers.writeFlags Registers.writePriority Registers.writeConfig Registers.writeRoute
-    Registers.writtenStatus Registers.write Registers.access Registers.byByte Registers.readAccess Registers.writeAccess Registers.guestRead
+    Registers.flagAfterStatus Registers.write Registers.access Registers.byByte Registers.readAccess Registers.writeAccess Registers.guestRead
     Registers.guestWrite
     Lines.latches Lines.lineChanged
-    Interface.systemIn Interface.system Interface.plainRead Interface.plainWrite Interface.plainTakes Interface.mine Interface.groupOn
-    Interface.candidate Interface.rank Interface.better Interface.scan Interface.best Interface.cleared Interface.groupPriority Interface.runningLevel
+    Interface.systemIn Interface.system Interface.plainRead Interface.plainWrite Interface.plainTakes Interface.ownOrRouted Interface.groupOn
+    Interface.candidate Interface.rank Interface.better Interface.scan Interface.best Interface.clearedBits Interface.groupPriority Interface.runningLevel
     Interface.runningPriority Interface.ofGroup Interface.gives Interface.offered Interface.levelOf Interface.setLevel Interface.taken
     Interface.levelClear Interface.acknowledged Interface.highestPending Interface.signal Interface.ended Interface.deactivated Interface.named
     Interface.targets Interface.reaches Interface.sgiSent Interface.systemRead Interface.systemReadNext Interface.systemReadClear
     Interface.systemWrite
-    Attributes.groupOf Attributes.indexOf Attributes.shaped Attributes.placed Attributes.mappedItem Attributes.mapped Attributes.systemItem
+    Attributes.groupOf Attributes.indexOf Attributes.numberOk Attributes.affinityKnown Attributes.mappedItem Attributes.mapped Attributes.systemItem
     Attributes.item Attributes.known Attributes.registerTakes Attributes.takes Attributes.itemRead Attributes.itemWrite Attributes.itemIn
     Attributes.itemOf
-    Record.groups Record.encode Record.more Record.readGroups Record.decodeNumber Record.ofSpiWord Record.ofRoute Record.ofVcpuBlock Record.listed
-    Record.entries Record.entryRead Record.written Record.recordOf Record.saved Record.readable Record.entryPut Record.taking Record.load
+    Record.groupsOf Record.encode Record.more Record.readGroups Record.decodeNumber Record.ofSpiWord Record.ofRoute Record.ofVcpuBlock Record.listed
+    Record.entries Record.entryRead Record.entryBytes Record.recordOf Record.saved Record.readable Record.entryPut Record.taking Record.load
     Record.restored Record.faults Record.loadedState
-    Calls.given Calls.acceptable Calls.guestChecks Calls.frameChecks Calls.readChecks Calls.writeChecks Calls.lineMet Calls.registerChecks
+    Calls.lends Calls.acceptable Calls.guestChecks Calls.frameChecks Calls.readChecks Calls.writeChecks Calls.hasLine Calls.registerChecks
     Calls.getChecks Calls.setChecks Calls.checks Calls.refusal Calls.systemValue Calls.getValue Calls.value Calls.made Calls.vcpuAdded
-    Calls.initialisedNext Calls.systemReadState Calls.systemWriteState Calls.setState Calls.next Calls.lent Calls.filled Calls.settle Calls.call
+    Calls.initialisedNext Calls.systemReadState Calls.systemWriteState Calls.setState Calls.next Calls.lentBytes Calls.filled Calls.settle Calls.call
     Calls.frontOf Calls.handedBack
 differs rows from to = differs-from 1 rows from to
