@@ -14,12 +14,14 @@ use Rattle.model.specs.Layout.{stateLength, word, initialised, count, vc
 use Rattle.model.specs.Sound.{sound, stopped, fits, usedBits, entry, headerBits, blockBits, bankBits, lastBankBits}
 use Rattle.model.specs.Attributes.{Attribute, attr, itemOf, itemRead}
 use Rattle.model.specs.Record.{listed, ofVcpu}
+use Rattle.model.specs.declared.Item.{Item}
 use Rattle.model.specs.Demands.{Stopped, Alike}
 use Rattle.model.proofs.Within.{fits-lt, fits-le, fits-none}
 use Rattle.model.proofs.Soundness.{Count, Ready, ready, stopped-mark, stopped-running, Vcpu, open-vcpu}
-use Rattle.model.proofs.Readings.{SpiWord}
+use Rattle.model.proofs.Bits.{gather-lt}
+use Rattle.model.proofs.Readings.{SpiWord, spread, block-word}
 use Rattle.model.proofs.Listed.{Kept, groups, enables, latches, actives, offsetOf, Stored, pmr, ctlr, bpr0, bpr1, ap0r, ap1r, igrpen0, igrpen1, encodingOf, Listed, control, status, spi-flags, spi-lines, spi-priority, spi-config, spi-route, vcpu-status, vcpu-flags, vcpu-lines, vcpu-priority, vcpu-system, member}
-use Rattle.model.proofs.Places.{fieldOf, storedAt, field-small, stored-small, placeOf, Shape, itself, edges, above, shown, shapeOf, roomOf, shown-once, reads-place}
+use Rattle.model.proofs.Places.{fieldOf, storedAt, field-small, stored-small, placeOf, Shape, itself, edges, above, shown, shapeOf, roomOf, shown-once, namedBy, reads-place}
 
 -- ---- the bits that a word may have, region by region
 
@@ -66,7 +68,7 @@ module _ (c n : ℕ) where
 
 -- ---- a word is a listed attribute's, or alike in both devices
 
-pub Owned : (s t : List ℕ) → ℕ → Type 0
+unfoldable pub Owned : (s t : List ℕ) → ℕ → Type 0
 Owned s t p = ((a : Attribute) × (l : Listed s a) × (placeOf l ≡ p)) ⊎ (word t p ≡ word s p)
 
 module _ (s t : List ℕ) (hs : Ready s) (ht : Ready t) (same : Alike s t) (rest : (v : ℕ) → v < vcpus s → running t v ≡ running s v) where
@@ -220,6 +222,11 @@ module _ (s t : List ℕ) (hs : Ready s) (ht : Ready t) (same : Alike s t) (rest
 
 -- ---- the listed values decide the state
 
+-- the word at p is one that the shape k shows once, as a number of 32 bits
+pub record Shows (s : List ℕ) (k : Shape) (p : ℕ) : Type 0 where
+  pub room : word s p < roomOf k
+  pub small : shown k (word s p) < 2 ^ 32
+
 module _ (s : List ℕ) (h : Ready s) where
   -- a place lies in the state
   pub place-inside : {a : Attribute} (l : Listed s a) → placeOf l < stateLength
@@ -235,10 +242,6 @@ module _ (s : List ℕ) (h : Ready s) where
   place-inside (vcpu-lines v l) = omega (arith, h .few)
   place-inside (vcpu-priority v j l m) = omega (arith, h .few)
   place-inside (vcpu-system v p l) = omega (arith, stored-small p, h .few)
-
-  -- its word is one that its shape shows once: below 2^32, and edge flags below 2^16
-  below : {a : Attribute} (l : Listed s a) → word s (placeOf l) < 2 ^ 32
-  below l = fits-lt (word s (placeOf l)) (usedBits (count s) (vcpus s) (placeOf l)) (h .used (placeOf l) (place-inside l))
 
   pub edge-words : (w j : ℕ) → SpiWord s w → j < 2 → word s (256 + 16 * w + (13 + j)) < 2 ^ 16
   edge-words w j q l = go (decLt w 31)
@@ -262,32 +265,37 @@ module _ (s : List ℕ) (h : Ready s) where
           last-bits (count s) (vcpus s) (13 + j) (omega arith) ∙ entry-there (ltb 992 (count s)) lastBankBits (13 + j) (lt-ltb 992 (count s) (omega (arith, q .high))) in
           rw e (omega (arith, fits-le _ _ (rw m at (rw e at fit)), in-table j l .1))
 
-  pub shows-once : {a : Attribute} (l : Listed s a) → word s (placeOf l) < roomOf (shapeOf l)
-  shows-once control = below control
-  shows-once status = below status
-  shows-once (spi-flags w k q) = below (spi-flags w k q)
-  shows-once (spi-lines w q) = below (spi-lines w q)
-  shows-once (spi-priority w j q l) = below (spi-priority w j q l)
-  shows-once (spi-config w j q l) = edge-words w j q l
-  shows-once (spi-route id l m) = below (spi-route id l m)
-  shows-once (vcpu-status v l) = below (vcpu-status v l)
-  shows-once (vcpu-flags v k l) = below (vcpu-flags v k l)
-  shows-once (vcpu-lines v l) = below (vcpu-lines v l)
-  shows-once (vcpu-priority v j l m) = below (vcpu-priority v j l m)
-  shows-once (vcpu-system v pmr l) = below (vcpu-system v pmr l)
-  shows-once (vcpu-system v ctlr l) = below (vcpu-system v ctlr l)
-  shows-once (vcpu-system v bpr0 l) = below (vcpu-system v bpr0 l)
-  shows-once (vcpu-system v bpr1 l) = below (vcpu-system v bpr1 l)
-  shows-once (vcpu-system v ap0r l) = below (vcpu-system v ap0r l)
-  shows-once (vcpu-system v ap1r l) = below (vcpu-system v ap1r l)
-  shows-once (vcpu-system v igrpen0 l) = below (vcpu-system v igrpen0 l)
-  shows-once (vcpu-system v igrpen1 l) = below (vcpu-system v igrpen1 l)
+  itself-shows : (p : ℕ) → p < stateLength → Shows s itself p
+  itself-shows p l = let f = fits-lt (word s p) (usedBits (count s) (vcpus s) p) (h .used p l) in record { room = f; small = f }
 
--- the same attribute on a device of the same set-up: at the same place, shown alike
-pub record Carried (t : List ℕ) (p : ℕ) (k : Shape) (a : Attribute) : Type 0 where
+  pub shows : {a : Attribute} (l : Listed s a) → Shows s (shapeOf l) (placeOf l)
+  unfolding spread
+  shows control = let f = fits-le (word s 3) 3 (rw (header-bits (count s) (vcpus s) 3 (omega arith)) at (h .used 3 (omega arith))) in record { room = omega arith; small = omega arith }
+  shows status = itself-shows 4 (omega arith)
+  shows (spi-flags w k q) = itself-shows _ (place-inside (spi-flags w k q))
+  shows (spi-lines w q) = itself-shows _ (place-inside (spi-lines w q))
+  shows (spi-priority w j q l) = itself-shows _ (place-inside (spi-priority w j q l))
+  shows (spi-config w j q l) = record { room = edge-words w j q l; small = gather-lt 32 _ }
+  shows (spi-route id l m) = itself-shows _ (place-inside (spi-route id l m))
+  shows (vcpu-status v l) = itself-shows _ (place-inside (vcpu-status v l))
+  shows (vcpu-flags v k l) = itself-shows _ (place-inside (vcpu-flags v k l))
+  shows (vcpu-lines v l) = itself-shows _ (place-inside (vcpu-lines v l))
+  shows (vcpu-priority v j l m) = itself-shows _ (place-inside (vcpu-priority v j l m))
+  shows (vcpu-system v pmr l) = itself-shows _ (place-inside (vcpu-system v pmr l))
+  shows (vcpu-system v ctlr l) = let f = fits-le (word s (block v + 20)) 2 (block-word s h v 20 l (omega arith)) in record { room = omega arith; small = omega arith }
+  shows (vcpu-system v bpr0 l) = itself-shows _ (place-inside (vcpu-system v bpr0 l))
+  shows (vcpu-system v bpr1 l) = itself-shows _ (place-inside (vcpu-system v bpr1 l))
+  shows (vcpu-system v ap0r l) = itself-shows _ (place-inside (vcpu-system v ap0r l))
+  shows (vcpu-system v ap1r l) = itself-shows _ (place-inside (vcpu-system v ap1r l))
+  shows (vcpu-system v igrpen0 l) = itself-shows _ (place-inside (vcpu-system v igrpen0 l))
+  shows (vcpu-system v igrpen1 l) = itself-shows _ (place-inside (vcpu-system v igrpen1 l))
+
+-- the same attribute on a device of the same set-up: at the same place, shown alike, naming the same item
+pub record Carried (t : List ℕ) (p : ℕ) (k : Shape) (i : Item) (a : Attribute) : Type 0 where
   pub there : Listed t a
   pub place : placeOf there ≡ p
   pub shape : shapeOf there ≡ k
+  pub names : namedBy there ≡ i
 
 module _ (s t : List ℕ) (same : Alike s t) where
   pub spi-of : (w : ℕ) → SpiWord s w → SpiWord t w
@@ -296,30 +304,30 @@ module _ (s t : List ℕ) (same : Alike s t) where
   pub vcpu-of : (v : ℕ) → v < vcpus s → v < vcpus t
   vcpu-of v l = rw (same .same-number) l
 
-  of-vcpu : (v g a : ℕ) {p : ℕ} {k : Shape} → v < vcpus s → Carried t p k (attr g (ofVcpu t v a)) → Carried t p k (attr g (ofVcpu s v a))
-  of-vcpu v g a {p} {k} l c = subst (λ (x : ℕ). Carried t p k (attr g (x * 2 ^ 32 + a))) (same .same-affinities v l) c
+  of-vcpu : (v g a : ℕ) {p : ℕ} {k : Shape} {i : Item} → v < vcpus s → Carried t p k i (attr g (ofVcpu t v a)) → Carried t p k i (attr g (ofVcpu s v a))
+  of-vcpu v g a {p} {k} {i} l c = subst (λ (x : ℕ). Carried t p k i (attr g (x * 2 ^ 32 + a))) (same .same-affinities v l) c
 
-  pub carried : {a : Attribute} (l : Listed s a) → Carried t (placeOf l) (shapeOf l) a
-  carried control = record { there = control; place = refl; shape = refl }
-  carried status = record { there = status; place = refl; shape = refl }
-  carried (spi-flags w k q) = record { there = spi-flags w k (spi-of w q); place = refl; shape = refl }
-  carried (spi-lines w q) = record { there = spi-lines w (spi-of w q); place = refl; shape = refl }
-  carried (spi-priority w j q l) = record { there = spi-priority w j (spi-of w q) l; place = refl; shape = refl }
-  carried (spi-config w j q l) = record { there = spi-config w j (spi-of w q) l; place = refl; shape = refl }
-  carried (spi-route id l m) = record { there = spi-route id l (rw (same .same-count) m); place = refl; shape = refl }
-  carried (vcpu-status v l) = of-vcpu v 5 0x10 l (record { there = vcpu-status v (vcpu-of v l); place = refl; shape = refl })
-  carried (vcpu-flags v k l) = of-vcpu v 5 (0x10000 + offsetOf k) l (record { there = vcpu-flags v k (vcpu-of v l); place = refl; shape = refl })
-  carried (vcpu-lines v l) = of-vcpu v 7 0 l (record { there = vcpu-lines v (vcpu-of v l); place = refl; shape = refl })
-  carried (vcpu-priority v j l m) = of-vcpu v 5 (0x10400 + 4 * j) l (record { there = vcpu-priority v j (vcpu-of v l) m; place = refl; shape = refl })
-  carried (vcpu-system v p l) = of-vcpu v 6 (encodingOf p) l (record { there = vcpu-system v p (vcpu-of v l); place = refl; shape = refl })
+  pub carried : {a : Attribute} (l : Listed s a) → Carried t (placeOf l) (shapeOf l) (namedBy l) a
+  carried control = record { there = control; place = refl; shape = refl; names = refl }
+  carried status = record { there = status; place = refl; shape = refl; names = refl }
+  carried (spi-flags w k q) = record { there = spi-flags w k (spi-of w q); place = refl; shape = refl; names = refl }
+  carried (spi-lines w q) = record { there = spi-lines w (spi-of w q); place = refl; shape = refl; names = refl }
+  carried (spi-priority w j q l) = record { there = spi-priority w j (spi-of w q) l; place = refl; shape = refl; names = refl }
+  carried (spi-config w j q l) = record { there = spi-config w j (spi-of w q) l; place = refl; shape = refl; names = refl }
+  carried (spi-route id l m) = record { there = spi-route id l (rw (same .same-count) m); place = refl; shape = refl; names = refl }
+  carried (vcpu-status v l) = of-vcpu v 5 0x10 l (record { there = vcpu-status v (vcpu-of v l); place = refl; shape = refl; names = refl })
+  carried (vcpu-flags v k l) = of-vcpu v 5 (0x10000 + offsetOf k) l (record { there = vcpu-flags v k (vcpu-of v l); place = refl; shape = refl; names = refl })
+  carried (vcpu-lines v l) = of-vcpu v 7 0 l (record { there = vcpu-lines v (vcpu-of v l); place = refl; shape = refl; names = refl })
+  carried (vcpu-priority v j l m) = of-vcpu v 5 (0x10400 + 4 * j) l (record { there = vcpu-priority v j (vcpu-of v l) m; place = refl; shape = refl; names = refl })
+  carried (vcpu-system v p l) = of-vcpu v 6 (encodingOf p) l (record { there = vcpu-system v p (vcpu-of v l); place = refl; shape = refl; names = refl })
 
   -- a listed attribute that reads the same in both has the same word in both
   pub same-word : Ready s → Ready t → {a : Attribute} (l : Listed s a) → itemRead t (itemOf a t) ≡ itemRead s (itemOf a s) → word t (placeOf l) ≡ word s (placeOf l)
   same-word hs ht l e =
       let c = carried l in
       let there : shown (shapeOf l) (word t (placeOf l)) ≡ shown (shapeOf l) (word s (placeOf l)) = (rw (c .place, c .shape) at (sym (reads-place t ht (c .there)))) ∙ e ∙ reads-place s hs l in
-      let room : word t (placeOf l) < roomOf (shapeOf l) = rw (c .place, c .shape) at (shows-once t ht (c .there)) in
-      shown-once (shapeOf l) (word t (placeOf l)) (word s (placeOf l)) room (shows-once s hs l) there
+      let room : word t (placeOf l) < roomOf (shapeOf l) = rw (c .place, c .shape) at (shows t ht (c .there) .room) in
+      shown-once (shapeOf l) (word t (placeOf l)) (word s (placeOf l)) room (shows s hs l .room) there
 
 -- two sound, stopped devices of the same count and affinities whose listed attributes read alike are equal
 pub listed-decide : (s t : List ℕ) → Stopped s → Stopped t → Alike s t

@@ -14,5 +14,8 @@ pub mod Listed
 pub mod Places
 pub mod Cover
 pub mod Puts
+pub mod Mixed
+pub mod Asked
+pub mod Restores
 pub mod Rows
 pub mod Worked

@@ -70,6 +70,16 @@ stored-small ap1r = omega arith
 stored-small igrpen0 = omega arith
 stored-small igrpen1 = omega arith
 
+pub small-encoding : (p : Stored) → encodingOf p < 2 ^ 32
+small-encoding pmr = omega arith
+small-encoding ctlr = omega arith
+small-encoding bpr0 = omega arith
+small-encoding bpr1 = omega arith
+small-encoding ap0r = omega arith
+small-encoding ap1r = omega arith
+small-encoding igrpen0 = omega arith
+small-encoding igrpen1 = omega arith
+
 abbrev pub placeOf : {s : List ℕ} {a : Attribute} → Listed s a → ℕ
 placeOf control = 3
 placeOf status = 4
@@ -168,7 +178,7 @@ module _ (s : List ℕ) (h : Ready s) where
       (λ u m. not-true _ (open-vcpu s v (h .each-vcpu v l) .distinct u m))
 
   -- the parts of an attribute's number of vCPU v
-  vcpu-parts : (v a : ℕ) → v < vcpus s → a < 2 ^ 32 → (low (ofVcpu s v a) ≡ a) × (high (ofVcpu s v a) ≡ affinity s v)
+  pub vcpu-parts : (v a : ℕ) → v < vcpus s → a < 2 ^ 32 → (low (ofVcpu s v a) ≡ a) × (high (ofVcpu s v a) ≡ affinity s v)
   vcpu-parts v a q l =
       let d : ofVcpu s v a / 2 ^ 32 ≡ affinity s v = omega arith in
       (omega arith, ap (λ (x : ℕ). x % 2 ^ 32) d ∙ mod-eq-of-lt (fits-word s h (block v + 16) (omega (arith, h .few))))
@@ -193,16 +203,6 @@ module _ (s : List ℕ) (h : Ready s) where
       let z = vcpu-parts v (encodingOf p) q (small-encoding p) in
       rw (z .0, z .1, index-of v q, names p)
     where
-      small-encoding : (o : Stored) → encodingOf o < 2 ^ 32
-      small-encoding pmr = omega arith
-      small-encoding ctlr = omega arith
-      small-encoding bpr0 = omega arith
-      small-encoding bpr1 = omega arith
-      small-encoding ap0r = omega arith
-      small-encoding ap1r = omega arith
-      small-encoding igrpen0 = omega arith
-      small-encoding igrpen1 = omega arith
-
       names : (o : Stored) → system (encodingOf o) ≡ Both (plainOf o)
       names pmr = unfold system systemIn in refl
       names ctlr = unfold system systemIn in refl

@@ -27,23 +27,27 @@ use Rattle.model.proofs.Tests.{and-true, and-implied, not-both, below-a
 use Rattle.model.proofs.Within.{bit-none, fits-bit, fits-lt, fits-le, fits-none, wider}
 use Rattle.model.proofs.Soundness.{Ready, open-vcpu}
 use Rattle.model.proofs.Readings.{SpiWord, spread, flag-bit, priority-bit, bank-at, fits-word, flag-exists, priority-exists, edge-exists, private, block-word, line-ppi}
-use Rattle.model.proofs.Listed.{Listed, groups, enables, latches, actives, Stored, pmr, ctlr, bpr0, bpr1, ap0r, ap1r, igrpen0, igrpen1, control, status, spi-flags, spi-lines, spi-priority, spi-config, spi-route, vcpu-status, vcpu-flags, vcpu-lines, vcpu-priority, vcpu-system}
+use Rattle.model.proofs.Listed.{Listed, Kept, groups, enables, latches, actives, Stored, pmr, ctlr, bpr0, bpr1, ap0r, ap1r, igrpen0, igrpen1, control, status, spi-flags, spi-lines, spi-priority, spi-config, spi-route, vcpu-status, vcpu-flags, vcpu-lines, vcpu-priority, vcpu-system}
 use Rattle.model.proofs.Places.{storedAt, placeOf, shown, systemShape, shapeOf, plainOf, namedBy, spread-bit}
 use Rattle.model.proofs.Cover.{entry-there, header-bits, bank-bits, last-bits, edge-words, spi-of, vcpu-of}
 
 -- ---- one bit
 
 -- what a write of bit b leaves of a flag that is clear, or b already
-pub data Puts : Rule → Type 0 where
-  replaces : Puts Replaces
-  sets : Puts Sets
+pub data Puts (old w : ℕ) : Rule → Type 0 where
+  replaces : Puts old w Replaces
+  sets-clear : old ≡ 0 → Puts old w Sets
+  sets-same : old ≡ w → Puts old w Sets
 
-written-bit : {r : Rule} → Puts r → (old b : Bool) → (old ≡ false) ⊎ (old ≡ b) → flagAfter r old b ≡ b
+or-itself : (b : Bool) → (b || b) ≡ b
+or-itself true = refl
+or-itself false = refl
+
+written-bit : {old w : ℕ} {r : Rule} → Puts old w r → (i : ℕ) → flagAfter r (bit old i) (bit w i) ≡ bit w i
 unfolding flagAfter
-written-bit replaces old b h = refl
-written-bit sets old b (inl e) = rw e
-written-bit sets old true (inr e) = rw e
-written-bit sets old false (inr e) = rw e
+written-bit replaces i = refl
+written-bit (sets-clear e) i = rw (e, bit-none i)
+written-bit (sets-same e) i = rw e (or-itself _)
 
 -- where an interrupt does not exist neither word has a bit
 kept-bit : (e old b : Bool) {x : Bool} → x ≡ b → (old ≡ true → e ≡ true) → (b ≡ true → e ≡ true) → cond e x old ≡ b
@@ -55,31 +59,22 @@ kept-bit false false false h p q = refl
 same-bits : (w : ℕ) (f : ℕ → Bool) → w < 2 ^ 32 → ((i : ℕ) → i < 32 → f i ≡ bit w i) → gather 32 f ≡ w
 same-bits w f l h = sym (word-is 32 w f l (λ i m. sym (h i m)))
 
--- the word there is clear, or the one that is put
-pub Before : ℕ → ℕ → Type 0
-Before old w = (old ≡ 0) ⊎ (old ≡ w)
-
-before-bit : (old w i : ℕ) → Before old w → (bit old i ≡ false) ⊎ (bit old i ≡ bit w i)
-unfolding Before
-before-bit old w i (inl e) = inl (rw e (bit-none i))
-before-bit old w i (inr e) = inr (rw e)
-
 -- ---- the registers
 
 module _ (s : List ℕ) (h : Ready s) where
-  puts-flags : (x : View) (k from b : ℕ) {r : Rule} → Puts r → (w : ℕ) → w < 2 ^ 32 → Before (word s (bank (seenBy x) b + k)) w
+  puts-flags : (x : View) (k from b : ℕ) {r : Rule} (w : ℕ) → Puts (word s (bank (seenBy x) b + k)) w r → w < 2 ^ 32
       → ((i : ℕ) → i < 32 → bit (word s (bank (seenBy x) b + k)) i ≡ true → (has s x (32 * b + i) && leb from (32 * b + i)) ≡ true)
       → ((i : ℕ) → i < 32 → bit w i ≡ true → (has s x (32 * b + i) && leb from (32 * b + i)) ≡ true)
       → writeFlags s x k from r b w ≡ set s (bank (seenBy x) b + k) w
   unfolding writeFlags
-  puts-flags x k from b {r} q w l before p t = ap (set s (bank (seenBy x) b + k)) (same-bits w _ l at)
+  puts-flags x k from b {r} w q l p t = ap (set s (bank (seenBy x) b + k)) (same-bits w _ l at)
     where
       at : (i : ℕ) → i < 32
           → cond (has s x (32 * b + i) && leb from (32 * b + i)) (flagAfter r (flag k s (seenBy x) (32 * b + i)) (bit w i)) (flag k s (seenBy x) (32 * b + i)) ≡ bit w i
       at i m =
           rw (flag-bit s h (seenBy x) b k i m)
           (kept-bit (has s x (32 * b + i) && leb from (32 * b + i)) (bit (word s (bank (seenBy x) b + k)) i) (bit w i)
-          (written-bit q (bit (word s (bank (seenBy x) b + k)) i) (bit w i) (before-bit (word s (bank (seenBy x) b + k)) w i before)) (p i m) (t i m))
+          (written-bit q i) (p i m) (t i m))
 
   -- priorities: any word of multiples of 8
   high-bits : allBelow (λ i. not (bit 0xf8f8f8f8 i) || leb 3 (i % 8)) 32 ≡ true
@@ -155,7 +150,7 @@ pmr-word w e = eqb-true _ _ (of-mask 0xf8 249 (λ u. eqb (u % 256 / 8 * 8) u) te
     test = unfold allBelow fits within in refl
 
 -- CTLR: bit 1
-ctlr-word : (w : ℕ) → fits w 2 ≡ true → ((0x400 + w) / 2 % 2 * 2 ≡ w) × ((eqb (0x400 + w) 0x400 || eqb (0x400 + w) 0x402) ≡ true)
+pub ctlr-word : (w : ℕ) → fits w 2 ≡ true → ((0x400 + w) / 2 % 2 * 2 ≡ w) × ((eqb (0x400 + w) 0x400 || eqb (0x400 + w) 0x402) ≡ true)
 ctlr-word w e = (eqb-true _ _ (of-mask 2 3 (λ u. eqb ((0x400 + u) / 2 % 2 * 2) u) test w small e), of-mask 2 3 (λ u. eqb (0x400 + u) 0x400 || eqb (0x400 + u) 0x402) taken w small e)
   where
     small : w < 3
@@ -209,34 +204,55 @@ module _ (s : List ℕ) (h : Ready s) where
 
 -- ---- a put of a listed attribute
 
+-- what the register does with a bit: the set registers of a pair set, all others replace
+abbrev pub keptRule : Kept → Rule
+keptRule groups = Replaces
+keptRule enables = Sets
+keptRule latches = Replaces
+keptRule actives = Sets
+
+abbrev pub ruleOf : {s : List ℕ} {a : Attribute} → Listed s a → Rule
+ruleOf control = Replaces
+ruleOf status = Replaces
+ruleOf (spi-flags w k q) = keptRule k
+ruleOf (spi-lines w q) = Replaces
+ruleOf (spi-priority w j q l) = Replaces
+ruleOf (spi-config w j q l) = Replaces
+ruleOf (spi-route id l h) = Replaces
+ruleOf (vcpu-status v l) = Replaces
+ruleOf (vcpu-flags v k l) = keptRule k
+ruleOf (vcpu-lines v l) = Replaces
+ruleOf (vcpu-priority v j l m) = Replaces
+ruleOf (vcpu-system v p l) = Replaces
+
 module _ (f s : List ℕ) (hf : Ready f) (hs : Ready s) (same : Alike f s) where
   same-spi : (id : ℕ) → isSpi f id ≡ true → isSpi s id ≡ true
   unfolding isSpi
   same-spi id e = rw (same .same-count) e
 
-  put-spi-flags : (w k from : ℕ) {r : Rule} → Puts r → SpiWord f w → k < 5 → from ≤ 32 → Before (word s (256 + 16 * w + k)) (word f (256 + 16 * w + k))
+  put-spi-flags : (w k from : ℕ) {r : Rule} → Puts (word s (256 + 16 * w + k)) (word f (256 + 16 * w + k)) r → SpiWord f w → k < 5 → from ≤ 32
       → writeFlags s Distributor k from r w (word f (256 + 16 * w + k)) ≡ set s (256 + 16 * w + k) (word f (256 + 16 * w + k))
   unfolding has seenBy
-  put-spi-flags w k from q o l g before =
+  put-spi-flags w k from q o l g =
       let b : bank 0 w ≡ 256 + 16 * w = bank-at s hs 0 w (o .low) in
       let at-least : (i : ℕ) → leb from (32 * w + i) ≡ true = λ i. le-leb from (32 * w + i) (omega (arith, o .low)) in
-      puts-flags s hs Distributor k from w q (word f (256 + 16 * w + k)) (fits-word f hf (256 + 16 * w + k) (omega (arith, o .high, hf .counted .most))) (rw b before)
+      puts-flags s hs Distributor k from w (word f (256 + 16 * w + k)) (rw b q) (fits-word f hf (256 + 16 * w + k) (omega (arith, o .high, hf .counted .most)))
       (λ i m e. and-true (flag-exists s hs w k i (spi-of f s same w o) l m (rw b at e)) (at-least i))
       (λ i m e. and-true (same-spi (32 * w + i) (flag-exists f hf w k i o l m e)) (at-least i))
       ∙ rw b
 
-  put-private-flags : (v k : ℕ) {r : Rule} → Puts r → v < vcpus f → k < 4 → Before (word s (block v + k)) (word f (block v + k))
+  put-private-flags : (v k : ℕ) {r : Rule} → Puts (word s (block v + k)) (word f (block v + k)) r → v < vcpus f → k < 4
       → writeFlags s (Frame v) k 0 r 0 (word f (block v + k)) ≡ set s (block v + k) (word f (block v + k))
   unfolding has seenBy
-  put-private-flags v k q l m before =
-      puts-flags s hs (Frame v) k 0 0 q (word f (block v + k)) (fits-word f hf (block v + k) (omega (arith, hf .few))) before
+  put-private-flags v k q l m =
+      puts-flags s hs (Frame v) k 0 0 (word f (block v + k)) q (fits-word f hf (block v + k) (omega (arith, hf .few)))
       (λ i n e. and-true (private s hs i n) (le-leb 0 (32 * 0 + i) (omega arith))) (λ i n e. and-true (private s hs i n) (le-leb 0 (32 * 0 + i) (omega arith)))
 
-  put-private-lines : (v : ℕ) → v < vcpus f → Before (word s (block v + 4)) (word f (block v + 4))
+  put-private-lines : (v : ℕ) → v < vcpus f
       → writeFlags s (Frame v) 4 16 Replaces 0 (word f (block v + 4)) ≡ set s (block v + 4) (word f (block v + 4))
   unfolding has seenBy
-  put-private-lines v l before =
-      puts-flags s hs (Frame v) 4 16 0 replaces (word f (block v + 4)) (fits-word f hf (block v + 4) (omega (arith, hf .few))) before
+  put-private-lines v l =
+      puts-flags s hs (Frame v) 4 16 0 (word f (block v + 4)) replaces (fits-word f hf (block v + 4) (omega (arith, hf .few)))
       (λ i n e. and-true (private s hs i n) (line-ppi s hs v (vcpu-of f s same v l) i n e)) (λ i n e. and-true (private s hs i n) (line-ppi f hf v l i n e))
 
   put-spi-priority : (w j : ℕ) → SpiWord f w → j < 8
@@ -284,7 +300,7 @@ module _ (f s : List ℕ) (hf : Ready f) (hs : Ready s) (same : Alike f s) where
       let e : w % 2 ≡ w = omega (arith, fits-le w 1 (block-word f hf v 26 l (omega arith))) in
       ap (set s (block v + 26)) e
 
-  pub put-item : {a : Attribute} (l : Listed f a) → Before (word s (placeOf l)) (word f (placeOf l))
+  pub put-item : {a : Attribute} (l : Listed f a) → Puts (word s (placeOf l)) (word f (placeOf l)) (ruleOf l)
       → itemWrite s (namedBy l) (shown (shapeOf l) (word f (placeOf l))) ≡ set s (placeOf l) (word f (placeOf l))
   unfolding itemWrite write flags ruleFor writtenStatus statusAt
   put-item control before =
@@ -295,11 +311,11 @@ module _ (f s : List ℕ) (hf : Ready f) (hs : Ready s) (same : Alike f s) where
       let w = word f 4 in
       let e : w % 16 ≡ w = omega (arith, fits-le w 15 (header-word f hf 4 (omega arith))) in
       ap (set s 4) e
-  put-item (spi-flags w groups q) before = put-spi-flags w 0 0 replaces q (omega arith) (omega arith) before
-  put-item (spi-flags w enables q) before = put-spi-flags w 1 0 sets q (omega arith) (omega arith) before
-  put-item (spi-flags w latches q) before = put-spi-flags w 2 0 replaces q (omega arith) (omega arith) before
-  put-item (spi-flags w actives q) before = put-spi-flags w 3 0 sets q (omega arith) (omega arith) before
-  put-item (spi-lines w q) before = put-spi-flags w 4 16 replaces q (omega arith) (omega arith) before
+  put-item (spi-flags w groups q) before = put-spi-flags w 0 0 before q (omega arith) (omega arith)
+  put-item (spi-flags w enables q) before = put-spi-flags w 1 0 before q (omega arith) (omega arith)
+  put-item (spi-flags w latches q) before = put-spi-flags w 2 0 before q (omega arith) (omega arith)
+  put-item (spi-flags w actives q) before = put-spi-flags w 3 0 before q (omega arith) (omega arith)
+  put-item (spi-lines w q) before = put-spi-flags w 4 16 before q (omega arith) (omega arith)
   put-item (spi-priority w j q l) before = put-spi-priority w j q l
   put-item (spi-config w j q l) before =
       puts-config s hs w j (word f (256 + 16 * w + (13 + j))) (spi-of f s same w q) l (edge-words f hf w j q l)
@@ -309,10 +325,10 @@ module _ (f s : List ℕ) (hf : Ready f) (hs : Ready s) (same : Alike f s) where
       let w = word f (block v + 18) in
       let e : w % 16 ≡ w = omega (arith, fits-le w 15 (block-word f hf v 18 l (omega arith))) in
       ap (set s (block v + 18)) e
-  put-item (vcpu-flags v groups l) before = put-private-flags v 0 replaces l (omega arith) before
-  put-item (vcpu-flags v enables l) before = put-private-flags v 1 sets l (omega arith) before
-  put-item (vcpu-flags v latches l) before = put-private-flags v 2 replaces l (omega arith) before
-  put-item (vcpu-flags v actives l) before = put-private-flags v 3 sets l (omega arith) before
-  put-item (vcpu-lines v l) before = put-private-lines v l before
+  put-item (vcpu-flags v groups l) before = put-private-flags v 0 before l (omega arith)
+  put-item (vcpu-flags v enables l) before = put-private-flags v 1 before l (omega arith)
+  put-item (vcpu-flags v latches l) before = put-private-flags v 2 before l (omega arith)
+  put-item (vcpu-flags v actives l) before = put-private-flags v 3 before l (omega arith)
+  put-item (vcpu-lines v l) before = put-private-lines v l
   put-item (vcpu-priority v j l m) before = put-private-priority v j l m
   put-item (vcpu-system v p l) before = put-system v p l

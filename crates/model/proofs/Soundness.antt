@@ -11,7 +11,7 @@ use lib.ListN.{length}
 use Rattle.model.specs.Words.{every, allBelow}
 use Rattle.model.specs.Layout.{stateLength, mostVcpus, word, initialised, count, vcpus, vcpuWord, affinity, running}
 use Rattle.model.specs.Sound.{fits, usedBits, allowedBits, wordOk, isCount, setup, unused, vcpuOk, sound, stopped}
-use Rattle.model.proofs.Tests.{both, and-true, either, every-at, every-all, below-at, below-all}
+use Rattle.model.proofs.Tests.{both, and-true, either, or-right, every-at, every-all, below-at, below-all}
 
 pub record Sound (s : List ℕ) : Type 0 where
   pub size : length s ≡ stateLength
@@ -145,3 +145,23 @@ unfolding vcpuOk unused
 close-vcpu s v h =
     and-true (and-true (and-true (eq-eqb _ _ (h .edges)) (le-leb 2 _ (h .bpr0))) (le-leb 3 _ (h .bpr1)))
     (below-all (λ u. not (eqb (affinity s u) (affinity s v))) v (h .distinct))
+
+-- ---- and back: such numbers and words make a sound state
+
+pub count-is : (c : ℕ) → Count c → isCount c ≡ true
+unfolding isCount
+count-is c h = and-true (and-true (le-leb 64 c (h .least)) (le-leb c 1024 (h .most))) (eq-eqb (c % 32) 0 (h .step))
+
+pub ready-sound : (s : List ℕ) → Ready s → sound s ≡ true
+unfolding setup wordOk allowedBits
+ready-sound s h =
+    close-sound s (record {
+      size = h .size;
+      set-up = rw (h .mark, count-is (count s) (h .counted), le-leb (vcpus s) 8 (h .few), le-leb 1 (vcpus s) (h .some)) (and-true (or-right (eqb (count s) 0) refl) refl);
+      each-vcpu = h .each-vcpu;
+      each-word = λ k l. rw (h .mark) (h .used k l);
+    })
+
+pub running-stopped : (s : List ℕ) → initialised s ≡ 1 → ((v : ℕ) → v < vcpus s → running s v ≡ 0) → stopped s ≡ true
+unfolding stopped
+running-stopped s i h = and-true (eq-eqb (initialised s) 1 i) (below-all (λ v. eqb (running s v) 0) (vcpus s) (λ v l. eq-eqb (running s v) 0 (h v l)))

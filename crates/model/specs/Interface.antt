@@ -132,7 +132,7 @@ scan s v (suc n) id b = scan s v n (suc id) (better s v id b)
 unfoldable pub best : List ℕ → ℕ → ℕ
 best s v = scan s v (idsBelow (count s)) 0 nothing
 
--- ---- group priority: low bits clearedBits, BPR0 + 1 of them for group 0, BPR1 for group 1
+-- ---- group priority: low bits cleared, BPR0 + 1 of them for group 0, BPR1 for group 1
 unfoldable pub clearedBits : List ℕ → ℕ → ℕ → ℕ
 clearedBits s v g = cond (eqb g 0) (word s (bprAt v 0) + 1) (word s (bprAt v 1))
 
@@ -168,7 +168,7 @@ levelOf s v g b = groupPriority s v g (rankPriority b) / 8
 unfoldable pub setLevel : Bool → ℕ → ℕ → ℕ → List ℕ → List ℕ
 setLevel t v g level s = set s (aprAt v g) (withBit (word s (aprAt v g)) level t)
 
--- acknowledging b: it is made active, its latch clearedBits, its group priority's bit set in APgR
+-- acknowledging b: it is made active, its latch cleared, its group priority's bit set in APgR
 unfoldable pub taken : List ℕ → ℕ → ℕ → ℕ → List ℕ
 taken s v g b = setLevel true v g (levelOf s v g b) (setFlag 2 false v (rankId b) (setFlag 3 true v (rankId b) s))
 
@@ -192,7 +192,7 @@ signal s v = cond (found (offered s v 1)) 1 (cond (found (offered s v 0)) 2 0)
 abbrev pub eoiMode : List ℕ → ℕ → Bool
 eoiMode s v = bit (word s (ctlrAt v)) 1
 
--- nothing if no such interrupt, or if APgR lacks the running level; else that bit is clearedBits and, in EOImode 0, the interrupt made inactive
+-- nothing if no such interrupt, or if APgR lacks the running level; else that bit is cleared and, in EOImode 0, the interrupt made inactive
 unfoldable pub ended : List ℕ → ℕ → ℕ → ℕ → List ℕ
 ended s v g id =
     let level = runningLevel s v in
