@@ -17,5 +17,7 @@ pub mod Puts
 pub mod Mixed
 pub mod Asked
 pub mod Restores
+pub mod Recorded
+pub mod Demand
 pub mod Rows
 pub mod Worked

@@ -11,8 +11,8 @@ use borrow.Author.Tests.{eqb-true, eq-eqb, ne-eqb, lt-ltb, le-ltb, not-true}
 use lib.Dec.{eqb, ltb, leb}
 use lib.ListN.{getD}
 use Rattle.model.specs.Words.{bit, gather, lowest}
-use Rattle.model.specs.Layout.{stateLength, word, count, vcpus, block, affinity, routeAt}
-use Rattle.model.specs.Registers.{decode, rows, read, attribute, flags, shownTo, statusAt}
+use Rattle.model.specs.Layout.{stateLength, word, count, vcpus, block, bank, affinity, routeAt}
+use Rattle.model.specs.Registers.{decode, rows, read, attribute, flags, shownTo, statusAt, seenBy}
 use Rattle.model.specs.Interface.{system, systemIn, plainRead}
 use Rattle.model.specs.Attributes.{Attribute, attr, low, high, groupOf, indexOf, mappedItem, mapped, systemItem, item, itemIn, itemOf, itemRead}
 use Rattle.model.specs.Record.{ofVcpu}
@@ -21,11 +21,11 @@ use Rattle.model.specs.declared.View.the-variants.{Distributor, Frame}
 use Rattle.model.specs.declared.Flags.{Flags}
 use Rattle.model.specs.declared.Flags.the-variants.{Group, SetEnable, SetPending, SetActive, Lines}
 use Rattle.model.specs.declared.Register.{Register}
-use Rattle.model.specs.declared.Register.the-variants.{Control, Status, Bits, Priority, Config, Route}
+use Rattle.model.specs.declared.Register.the-variants.{Fixed, Control, Typer, Iidr, Status, Bits, Priority, Config, Route, FrameTyper, FrameAffinity}
 use Rattle.model.specs.declared.Decoded.{Decoded}
 use Rattle.model.specs.declared.Decoded.the-variants as decoded
 use Rattle.model.specs.declared.Plain.{Plain}
-use Rattle.model.specs.declared.Plain.the-variants.{Pmr, Bpr, Apr, Ctlr, Igrpen}
+use Rattle.model.specs.declared.Plain.the-variants.{Pmr, Bpr, Apr, Ctlr, Sre, Igrpen}
 use Rattle.model.specs.declared.SystemRegister.the-variants.{Both}
 use Rattle.model.specs.declared.Item.{Item}
 use Rattle.model.specs.declared.Item.the-variants.{Mapped, System, Nameless}
@@ -33,7 +33,7 @@ use Rattle.model.proofs.Bits.{bit-gather, word-is}
 use Rattle.model.proofs.Tests.{not-both}
 use Rattle.model.proofs.Soundness.{Ready, Vcpu, open-vcpu}
 use Rattle.model.proofs.Decode.{decode-group, decode-set-enable, decode-set-pending, decode-set-active, decode-priority, decode-config, decode-route, decode-control, decode-status, decode-frame-priority, decode-frame-status, decode-frame-group, decode-frame-set-enable, decode-frame-set-pending, decode-frame-set-active}
-use Rattle.model.proofs.Readings.{SpiWord, fits-word, spread, reads-spi-flags, reads-private-flags, reads-private-lines, reads-spi-priority, reads-private-priority, reads-spi-config, reads-route}
+use Rattle.model.proofs.Readings.{SpiWord, fits-word, bank-at, spread, reads-spi-flags, reads-private-flags, reads-private-lines, reads-spi-priority, reads-private-priority, reads-spi-config, reads-route}
 use Rattle.model.proofs.Listed.{Kept, groups, enables, latches, actives, offsetOf, Stored, pmr, ctlr, bpr0, bpr1, ap0r, ap1r, igrpen0, igrpen1, encodingOf, Listed, control, status, spi-flags, spi-lines, spi-priority, spi-config, spi-route, vcpu-status, vcpu-flags, vcpu-lines, vcpu-priority, vcpu-system}
 
 -- ---- the place, and how the word there is shown
@@ -398,3 +398,73 @@ module _ (s : List ℕ) (h : Ready s) where
   -- two listed attributes at one place are the same attribute
   pub own-place : {a b : Attribute} (l : Listed s a) (m : Listed s b) → placeOf l ≡ placeOf m → a ≡ b
   own-place l m e = sym (from-place l) ∙ ap (attributeAt s) e ∙ from-place m
+
+-- ---- an attribute has one place: it follows from the item that it names
+
+unfoldable pub registerPlace : View → Register → ℕ → ℕ
+registerPlace x (Fixed c) k = 0
+registerPlace x Control k = 3
+registerPlace x Typer k = 0
+registerPlace x Iidr k = 0
+registerPlace x Status k = statusAt x
+registerPlace x (Bits f) k = bank (seenBy x) k + flags f .field
+registerPlace x Priority k = bank (seenBy x) (k / 8) + (5 + k % 8)
+registerPlace x Config k = bank (seenBy x) (k / 2) + (13 + k % 2)
+registerPlace x Route k = routeAt (32 + k / 2)
+registerPlace x FrameTyper k = 0
+registerPlace x FrameAffinity k = 0
+
+unfoldable pub plainPlace : ℕ → Plain → ℕ
+plainPlace v Pmr = block v + 19
+plainPlace v (Bpr g) = block v + (21 + g)
+plainPlace v (Apr g) = block v + (23 + g)
+plainPlace v Ctlr = block v + 20
+plainPlace v Sre = 0
+plainPlace v (Igrpen g) = block v + (25 + g)
+
+unfoldable pub itemPlace : Item → ℕ
+itemPlace (Mapped x r k) = registerPlace x r k
+itemPlace (System v p) = plainPlace v p
+itemPlace Nameless = 0
+
+module _ (s : List ℕ) (h : Ready s) where
+  item-place : {a : Attribute} (l : Listed s a) → itemPlace (namedBy l) ≡ placeOf l
+  unfolding itemPlace registerPlace plainPlace flags statusAt seenBy
+  item-place control = refl
+  item-place status = refl
+  item-place (spi-flags w groups q) = rw (bank-at s h 0 w (q .low))
+  item-place (spi-flags w enables q) = rw (bank-at s h 0 w (q .low))
+  item-place (spi-flags w latches q) = rw (bank-at s h 0 w (q .low))
+  item-place (spi-flags w actives q) = rw (bank-at s h 0 w (q .low))
+  item-place (spi-lines w q) = rw (bank-at s h 0 w (q .low))
+  item-place (spi-priority w j q l) =
+      let d : (8 * w + j) / 8 ≡ w = omega arith in
+      let r : (8 * w + j) % 8 ≡ j = omega arith in
+      rw (d, r, bank-at s h 0 w (q .low))
+  item-place (spi-config w j q l) =
+      let d : (2 * w + j) / 2 ≡ w = omega arith in
+      let r : (2 * w + j) % 2 ≡ j = omega arith in
+      rw (d, r, bank-at s h 0 w (q .low))
+  item-place (spi-route id l m) = let e : 32 + 2 * (id - 32) / 2 ≡ id = omega arith in rw e
+  item-place (vcpu-status v l) = refl
+  item-place (vcpu-flags v groups l) = refl
+  item-place (vcpu-flags v enables l) = refl
+  item-place (vcpu-flags v latches l) = refl
+  item-place (vcpu-flags v actives l) = refl
+  item-place (vcpu-lines v l) = refl
+  item-place (vcpu-priority v j l m) =
+      let d : j / 8 ≡ 0 = omega arith in
+      let r : j % 8 ≡ j = omega arith in
+      rw (d, r)
+  item-place (vcpu-system v pmr l) = refl
+  item-place (vcpu-system v ctlr l) = refl
+  item-place (vcpu-system v bpr0 l) = refl
+  item-place (vcpu-system v bpr1 l) = refl
+  item-place (vcpu-system v ap0r l) = refl
+  item-place (vcpu-system v ap1r l) = refl
+  item-place (vcpu-system v igrpen0 l) = refl
+  item-place (vcpu-system v igrpen1 l) = refl
+
+  pub one-place : {a b : Attribute} (l : Listed s a) (m : Listed s b) → a ≡ b → placeOf l ≡ placeOf m
+  one-place {a} {b} l m e =
+      sym (item-place l) ∙ ap itemPlace (sym (names-item s h l) ∙ ap (λ (x : Attribute). itemOf x s) e ∙ names-item s h m) ∙ item-place m
