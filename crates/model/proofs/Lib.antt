@@ -11,6 +11,7 @@ pub mod Best
 pub mod Level
 pub mod Readings
 pub mod Listed
+pub mod Sizes
 pub mod Places
 pub mod Cover
 pub mod Puts
