@@ -3,7 +3,7 @@
 
     sessions.py ORACLE SEED LINES [options] > crates/worked/proofs/SessionsNAME.antt
     sessions.py ORACLE SEED LINES [options] --log FILE
-    sessions.py ORACLE SEED LINES [options] --probe CHUNK ROW
+    sessions.py ORACLE SEED LINES [options] --calls N --probe [--log FILE]
 
 ORACLE is the folder of xdrill.py, a model of the device in Python, and of
 gen.py, which makes LINES random lines from SEED.  Each line is one call (lines
@@ -16,19 +16,19 @@ call gives the answer that xdrill gives, and the state after it is xdrill's.
     --count N       leave out calls on a device whose count is above N
     --search N      and those that look for the best interrupt if the count is above N
     --record N      and those that save or restore if the count is above N
-    --keep N        keep about N calls in all: parts of chunks that show most
+    --calls LIST    only these calls of the session, numbered from 1: 3-7,12
     --unsound       instead, for each chunk, the state before it with one word (or
                     the length) out of range: every call of it answers -14
 
 --log reads what a check of the file printed and says for each theorem that
-failed which call differs, with the state before it and the answer expected.
---probe writes a file whose check fails and shows, in the words of the refusal,
-what the definitions answer to that call and which words they leave otherwise.
+failed which calls it has, with the state before and the answers expected.
+With --chunk 1 a theorem is one call, so that the call that differs is named.
+--probe writes theorems on the bits of what the definitions answer to call N and
+of the first word that they leave otherwise.  Those that fail are the bits that
+are 0: --probe --log reads them from what the check printed.
 """
 
 import argparse
-import bisect
-import heapq
 import random
 import re
 import sys
@@ -160,7 +160,7 @@ class Row:
         word, *args = line.split(b" ")
         self.before, self.after, self.count = before, after, count
         self.errno = int(answer[1:]) if answer.startswith("-") else None
-        self.handed = self.damage = None
+        self.handed = None
         if word == b"save":
             self.kind = "save"
             self.length = int(args[0], 16)
@@ -223,6 +223,14 @@ class Row:
         return "0x%x" % self.value
 
 
+def call_numbers(text):
+    numbers = set()
+    for part in filter(None, text.split(",")):
+        first, _, last = part.partition("-")
+        numbers.update(range(int(first), int(last or first) + 1))
+    return numbers
+
+
 def play(options):
     """The rows of the session, cut into chunks."""
     sys.dont_write_bytecode = True
@@ -238,7 +246,8 @@ def play(options):
     xdrill.EXTRA[b"wrw"] = ((u64,) * 5, False, lambda d, v, f, o, s, x:
                             d.guest_mmio_write(v, f, o, s, x))
     drill = xdrill.Drill()
-    chunks, chunk, weight = [], [], 0
+    chunks, chunk, weight, made = [], [], 0, 0
+    wanted = call_numbers(options.calls)
     before = encode(drill.device)
     r = random.Random("frames/%s" % options.seed)
     for line in xdrill.split_lines(gen.generate(options.seed, options.lines)):
@@ -254,8 +263,10 @@ def play(options):
             after = encode(drill.device)
             row = Row(line, answer, before, after, drill.device.count or 256)
             before = after
+            made += 1
+            row.number = made
             count = max(row.before[1], row.after[1])
-            if (count > options.count
+            if (count > options.count or wanted and made not in wanted
                     or row.searches() and row.count > options.search
                     or row.records() and row.count > options.record):
                 ends = True
@@ -271,90 +282,6 @@ def play(options):
     if chunk:
         chunks.append(chunk)
     return chunks
-
-
-# ---- which chunks to keep ------------------------------------------------------
-
-# where the register blocks begin, of the distributor and (from 0x10000) of a frame
-BLOCKS = [0x0, 0x4, 0x8, 0xC, 0x10, 0x14, 0x18, 0x80, 0x100, 0x180, 0x200,
-          0x280, 0x300, 0x380, 0x400, 0x420, 0x800, 0xC00, 0xC04, 0xC08, 0xD00,
-          0x6100, 0x7FE0, 0x10000, 0x10080, 0x10100, 0x10180, 0x10200, 0x10280,
-          0x10300, 0x10380, 0x10400, 0x10420, 0x10C00, 0x10C04, 0x10C08]
-
-
-def first_id(offset):
-    """The first interrupt of a distributor's word; 0 for a word of none."""
-    if 0x80 <= offset < 0x400:
-        return offset % 0x80 * 8
-    if 0x400 <= offset < 0x800:
-        return offset - 0x400
-    if 0xC00 <= offset < 0xD00:
-        return (offset - 0xC00) * 4
-    if 0x6100 <= offset < 0x7FE0:
-        return (offset - 0x6000) // 8
-    return 0
-
-
-def shows(row):
-    """What a row is an example of."""
-    args = getattr(row, "args", [])
-    changes = row.before != row.after
-    interrupt = 0
-    where = ()
-    if row.kind.endswith("Attribute"):
-        group, low = args[0], args[1] & 0xFFFFFFFF
-        where = (min(group, 8),)
-        if row.errno is None and group != 3:
-            where += (low if group == 6 else bisect.bisect(BLOCKS, low),)
-        interrupt = {1: first_id(low), 7: low}.get(group, 0)
-    elif row.errno is None and row.kind.endswith(("Distributor", "Frame")):
-        offset, size = args[1:3] if row.kind.endswith("or") else args[2:4]
-        where = ((size if size in (1, 4) and offset % (size or 1) == 0 else 0),
-                 bisect.bisect(BLOCKS, offset))
-        if row.kind.endswith("or"):
-            interrupt = first_id(offset)
-    elif row.errno is None and row.kind.endswith("System"):
-        where = (args[1], row.value == 1023)
-        if args[1] in SEARCHES:
-            interrupt = row.value
-    elif row.kind == "changeLine":
-        where = (args[1] < 32, args[2])
-        interrupt = args[1]
-    elif row.kind == "querySignal":
-        where = (row.value,)
-    yield row.kind, row.errno, changes, *where
-    yield row.kind, row.errno
-    yield row.kind, "several", row.before[2:3] > [1]
-    yield (row.kind, interrupt >= 32, interrupt >= 992,
-           interrupt >= row.count or interrupt >= 1020)
-    yield "device", row.before[1:3]
-    yield "damage", row.damage
-
-
-def keep(chunks, wanted):
-    """Parts of chunks, about that many calls in all.  Taken one after the
-    other, each with the most that is new for its size."""
-    seen, kept, calls, heap = set(), [], 0, []
-    for k, chunk in enumerate(chunks):
-        marks = [frozenset(map(repr, shows(row))) for row in chunk]
-        words = sum(map(bool, chunk[0].before))
-        for i in range(len(chunk)):
-            for j in range(i + 1, len(chunk) + 1):
-                part = frozenset().union(*marks[i:j])
-                size = 1 + j - i + words / 150
-                heap.append((-len(part) / size, k, i, j, size, part))
-    heapq.heapify(heap)
-    while heap and calls < wanted:
-        _, k, i, j, size, part = heapq.heappop(heap)
-        left = part - seen
-        if len(left) < len(part):
-            if left:
-                heapq.heappush(heap, (-len(left) / size, k, i, j, size, left))
-            continue
-        kept.append((k, i, j))
-        seen |= part
-        calls += j - i
-    return [chunks[k][i:j] for k, i, j in sorted(kept)]
 
 
 # ---- states that are not sound -------------------------------------------------
@@ -395,9 +322,9 @@ def damages(words, r):
         else:
             found += [(last + r.randrange(5), 1 << 28), (last + 12, 8),
                       (last + 14, 1 << 12)]
-    states = [((p, w) if p < 16 else (p % 32, w), words[:p] + [w] + words[p + 1:])
-              for p, w in found if words[p] != w]
-    return states + [("short", words[:-1]), ("long", words + [0]), ("none", [])]
+    states = [words[:p] + [w] + words[p + 1:] for p, w in found
+              if words[p] != w]
+    return states + [words[:-1], words + [0], []]
 
 
 def unsound(chunks, options):
@@ -405,18 +332,18 @@ def unsound(chunks, options):
     r = random.Random("unsound/%s" % options.seed)
     out = []
     for chunk in chunks:
-        damage, state = r.choice(damages(chunk[0].before, r))
+        state = r.choice(damages(chunk[0].before, r))
         right = len(state) == STATE_WORDS
         rows = [row for row in chunk if row.kind != "make"]
         for row in rows:
             row.before = row.after = state
             row.errno, row.value, row.handed = 14, None, None
-            row.damage = damage
             if row.kind == "save":
                 row.length = min(row.length, 20)     # never looked at
         if r.randrange(3) == 0:
             rows.append(Row(b"new", "ok" if right else "-14", state,
                             [0] * STATE_WORDS if right else state, 64))
+            rows[-1].number = chunk[-1].number
         if rows:
             out.append(rows)
     return out
@@ -521,7 +448,7 @@ def write(chunks, options):
     states = {}
     body = "\n".join(chunk_text(prefix, k, chunk, states)
                      for k, chunk in enumerate(chunks, 1))
-    what = ("Calls on states with one word, or the length, out of range: each answers -14 and leaves the state."
+    what = ("Calls on states with one word, or the length, out of range: each answers -14 and leaves the state. Making a device looks at the length alone."
             if options.unsound else
             "A random session of calls: from each state the calls give these answers and leave the next state.")
     print("-- %s\n-- Made by: %s\n-- %d calls in %d theorems. ORACLE's model of the device, in Python, gave the answers and the states.\n%s\n%s"
@@ -529,52 +456,54 @@ def write(chunks, options):
              head(body), body), end="")
 
 
-def show(row):
-    print("  call      %s" % row.call())
-    print("  expected  %s" % row.expected())
-    print("  before")
-    for p, w in enumerate(row.before):
+def show_state(words):
+    for p, w in enumerate(words):
         if w:
             print("    %4d  %-26s 0x%x" % (p, place_name(p), w))
-    changed = [p for p in range(min(len(row.before), len(row.after)))
-               if row.before[p] != row.after[p]]
-    print("  then " + (", ".join("%s 0x%x" % (place_name(p), row.after[p])
-                                 for p in changed) or "no change"))
 
 
 def read_log(chunks, options):
     prefix = ("unsound-%s" if options.unsound else "session-%s") % options.seed
     text = open(options.log, encoding="utf-8").read()
-    failed = set(re.findall(r"`%s-chunk-(\d+)`" % re.escape(prefix), text))
+    failed = set(re.findall(r"error: `%s-chunk-(\d+)`" % re.escape(prefix), text))
     for k in sorted(map(int, failed)):
-        chunk = chunks[k - 1]
-        m = re.search(r"`%s-chunk-%d`.*?Path ℕ (\d+) 0\b" % (re.escape(prefix), k),
-                      text, re.S)
-        if m is None:
-            print("chunk %d: no number (a limit?)" % k)
-            continue
-        row = int(m.group(1))
-        if row > len(chunk):
-            print("chunk %d: the answers agree, the state after it does not" % k)
-            for i, r in enumerate(chunk, 1):
-                print("  %d: %s -> %s" % (i, r.call(), r.expected()))
-        else:
-            print("chunk %d, row %d" % (k, row))
-            show(chunk[row - 1])
+        print("chunk %d differs\n  before" % k)
+        show_state(chunks[k - 1][0].before)
+        for row in chunks[k - 1]:
+            changed = ["%s 0x%x" % (place_name(p), y) for p, (x, y)
+                       in enumerate(zip(row.before, row.after)) if x != y]
+            print("  call %d  %s\n    expected %s, then %s" % (
+                row.number, row.call(), row.expected(),
+                ", ".join(changed) or "no change"))
 
 
-def probe(chunks, options):
-    k, n = options.probe
-    chunk = chunks[k - 1]
-    row = chunk[min(n, len(chunk)) - 1]
-    call = row.call()
-    body = """\
--- (place, word left, word expected)
-changes : ℕ → List ℕ → List ℕ → List (ℕ × (ℕ × ℕ))
-changes p [] [] = []
-changes p [] (y ∷ ys) = (p, (0x100000000, y)) ∷ changes (suc p) [] ys
-changes p (x ∷ xs) [] = (p, (x, 0x100000000)) ∷ changes (suc p) xs []
-changes p (x ∷ xs) (y ∷ ys) = let rest = changes (suc p) xs ys in cond (eqb x y) rest ((p, (x, y)) ∷ rest)
+ANSWER_BITS, LEFT_BITS = 34, 44
+
+
+def probe(row):
+    bits_ = [("answer", i) for i in range(ANSWER_BITS)] + [
+        ("left", i) for i in range(LEFT_BITS)]
+    print(HEAD.replace("{ℕ}", "{ℕ, suc, _+_, _*_, _/_, _%_, _^_}")
+          .replace("{true,", "{Bool, true,")
+          .replace("Calls.{", "Calls.{Outcome, call, ")
+          .replace("{Row, gives, refuses, saves, words, changed,", "{words,")
+          + """\
+use lib.Dec.{eqb}
+use lib.IntN.{ℤ, pos, negsuc}
+
+-- twice the number, and 1 more for a negative one
+doubled : ℤ → ℕ
+doubled (pos n) = 2 * n
+doubled (negsuc n) = 2 * suc n + 1
+
+-- 2047, or the place of the first word that is otherwise than wanted and 2048 times the word
+otherwise : ℕ → List ℕ → List ℕ → ℕ
+otherwise p [] ys = 2047
+otherwise p (x ∷ xs) [] = 2047
+otherwise p (x ∷ xs) (y ∷ ys) = elim (eqb x y) [ true ↦ otherwise (suc p) xs ys | false ↦ p + 2048 * x ]
+
+isSet : ℕ → ℕ → Bool
+isSet n i = eqb (n / 2 ^ i %% 2) 1
 
 abbrev before : List ℕ
 before = %s
@@ -585,26 +514,37 @@ wanted = %s
 abbrev outcome : Outcome
 outcome = call (%s) before
 
-the-answer : outcome .answer ≡ pos 0x123456789
-unfolding differs
-the-answer = refl
+abbrev answer : ℕ
+answer = doubled (outcome .answer)
 
-the-state : changes 0 (outcome .state) wanted ≡ (9999, (0, 0)) ∷ []
-unfolding differs changes
-the-state = refl
+abbrev left : ℕ
+left = otherwise 0 (outcome .state) wanted
+""" % (state_term(row.before), state_term(row.after), row.call()))
+    for name, i in bits_:
+        print("%s-%d : isSet %s %d ≡ true\nunfolding differs doubled otherwise isSet\n%s-%d = refl\n"
+              % (name, i, name, i, name, i))
 
-the-buffer : handedBack outcome ≡ 0x123456789 ∷ []
-unfolding differs
-the-buffer = refl
-""" % (state_term(row.before), state_term(row.after), call)
-    text = HEAD.replace("{ℕ}", "{ℕ, suc}").replace("{true,", "{cond, true,") \
-        .replace("Calls.{", "Calls.{Outcome, call, handedBack, ") \
-        .replace("Rows.{Row, gives, refuses, saves, words, changed,", "Rows.{words,")
-    print(text + "use lib.Dec.{eqb}\nuse lib.IntN.{pos}\n\n" + body, end="")
+
+def read_probe(row, log):
+    text = open(log, encoding="utf-8").read()
+
+    def value(name, bits_):
+        return sum(1 << i for i in range(bits_)
+                   if "error: `%s-%d`" % (name, i) not in text)
+
+    answer, left = value("answer", ANSWER_BITS), value("left", LEFT_BITS)
+    print("call %d  %s\n  before" % (row.number, row.call()))
+    show_state(row.before)
+    print("  expected %s, found %s" % (
+        row.expected(), "-%d" % (answer // 2) if answer % 2
+        else "0x%x" % (answer // 2)))
+    if left % 2048 != 2047:
+        print("  leaves %s 0x%x, expected 0x%x" % (
+            place_name(left % 2048), left // 2048, row.after[left % 2048]))
 
 
 DEFAULTS = {"chunk": 12, "count": 1024, "search": 1024, "record": 1024,
-            "counts": (), "keep": 0}
+            "counts": (), "calls": ""}
 
 
 def main():
@@ -617,20 +557,21 @@ def main():
     parser.add_argument("lines", type=int)
     for name, default in DEFAULTS.items():
         parser.add_argument("--" + name, default=default,
-                            type=numbers if isinstance(default, tuple) else int)
+                            type=numbers if isinstance(default, tuple)
+                            else type(default))
     parser.add_argument("--unsound", action="store_true")
     parser.add_argument("--log")
-    parser.add_argument("--probe", nargs=2, type=int)
+    parser.add_argument("--probe", action="store_true")
     options = parser.parse_args()
     chunks = play(options)
     if options.unsound:
         chunks = unsound(chunks, options)
-    if options.keep:
-        chunks = keep(chunks, options.keep)
-    if options.log:
-        read_log(chunks, options)
+    if options.probe and options.log:
+        read_probe(chunks[0][0], options.log)
     elif options.probe:
-        probe(chunks, options)
+        probe(chunks[0][0])
+    elif options.log:
+        read_log(chunks, options)
     else:
         write(chunks, options)
 

@@ -58,6 +58,13 @@ module _ (c n : ℕ) where
       let e : 752 + j - 752 ≡ j = omega arith in
       rw (le-ltb (752 + j) 16 (omega arith), le-ltb (752 + j) 272 (omega arith), le-ltb (752 + j) 752 (omega arith), lt-ltb (752 + j) 768 (omega arith), e)
 
+  pub route-bits : (id : ℕ) → 32 ≤ id → id < min c 1020 → usedBits c n (routeAt id) ≡ 0x00ffffff
+  unfolding usedBits
+  route-bits id l m =
+      let e : routeAt id - 736 ≡ id = omega arith in
+      rw (le-ltb (routeAt id) 16 (omega arith), le-ltb (routeAt id) 272 (omega arith), le-ltb (routeAt id) 752 (omega arith), le-ltb (routeAt id) 768 (omega arith),
+      lt-ltb (routeAt id) 1756 (omega arith), e, lt-ltb id c (omega arith))
+
   pub route-none : (p : ℕ) → 768 ≤ p → (p < 1756 → c ≤ p - 736) → usedBits c n p ≡ 0
   unfolding usedBits
   route-none p l h = rw (le-ltb p 16 (omega arith), le-ltb p 272 (omega arith), le-ltb p 752 (omega arith), le-ltb p 768 (omega arith)) (go (decLt p 1756))

@@ -19,6 +19,8 @@ pub mod Mixed
 pub mod Asked
 pub mod Restores
 pub mod Recorded
+pub mod ReadsBack
 pub mod Demand
 pub mod Rows
 pub mod Worked
+pub mod Traps

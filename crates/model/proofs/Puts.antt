@@ -23,13 +23,13 @@ use Rattle.model.specs.declared.View.the-variants.{Distributor, Frame}
 use Rattle.model.specs.declared.Rule.{Rule}
 use Rattle.model.specs.declared.Rule.the-variants.{Ignores, Replaces, Sets, Clears}
 use Rattle.model.proofs.Bits.{gather-same, gather-bits, word-is}
-use Rattle.model.proofs.Tests.{and-true, and-implied, not-both, below-at}
+use Rattle.model.proofs.Tests.{both, implied, and-true, and-implied, not-both, below-at}
 use Rattle.model.proofs.Within.{bit-none, fits-bit, fits-lt, fits-le, fits-none, wider}
 use Rattle.model.proofs.Soundness.{Ready, open-vcpu}
 use Rattle.model.proofs.Readings.{SpiWord, spread, flag-bit, priority-bit, bank-at, fits-word, flag-exists, priority-exists, edge-exists, private, block-word, line-ppi}
 use Rattle.model.proofs.Listed.{Listed, Kept, groups, enables, latches, actives, Stored, pmr, ctlr, bpr0, bpr1, ap0r, ap1r, igrpen0, igrpen1, control, status, spi-flags, spi-lines, spi-priority, spi-config, spi-route, vcpu-status, vcpu-flags, vcpu-lines, vcpu-priority, vcpu-system}
 use Rattle.model.proofs.Places.{storedAt, placeOf, shown, systemShape, shapeOf, plainOf, namedBy, spread-bit}
-use Rattle.model.proofs.Cover.{entry-there, header-bits, bank-bits, last-bits, edge-words, spi-of, vcpu-of}
+use Rattle.model.proofs.Cover.{entry-there, header-bits, bank-bits, last-bits, route-bits, edge-words, spi-of, vcpu-of}
 
 -- ---- one bit
 
@@ -83,10 +83,6 @@ module _ (s : List ℕ) (h : Ready s) where
 
   eights : (w i : ℕ) → fits w 0xf8f8f8f8 ≡ true → i < 32 → bit w i ≡ true → leb 3 (i % 8) ≡ true
   eights w i f l b = implied (bit 0xf8f8f8f8 i) (leb 3 (i % 8)) (below-at _ 32 high-bits i l) (fits-bit w 0xf8f8f8f8 i f b)
-    where
-      implied : (a c : Bool) → (not a || c) ≡ true → a ≡ true → c ≡ true
-      implied true c e t = e
-      implied false c e t = absurd (true≢false (sym t))
 
   puts-priority : (x : View) (b j w : ℕ) → j < 8 → fits w 0xf8f8f8f8 ≡ true
       → ((i : ℕ) → i < 32 → bit (word s (bank (seenBy x) b + 5 + j)) i ≡ true → has s x (4 * (8 * b + j) + i / 8) ≡ true)
@@ -137,10 +133,6 @@ module _ (s : List ℕ) (h : Ready s) where
 -- what holds of each number below n that fits a mask, by one computed test
 of-mask : (m n : ℕ) (f : ℕ → Bool) → allBelow (λ w. not (fits w m) || f w) n ≡ true → (w : ℕ) → w < n → fits w m ≡ true → f w ≡ true
 of-mask m n f e w l h = implied (fits w m) (f w) (below-at (λ u. not (fits u m) || f u) n e w l) h
-  where
-    implied : (a c : Bool) → (not a || c) ≡ true → a ≡ true → c ≡ true
-    implied true c q t = q
-    implied false c q t = absurd (true≢false (sym t))
 
 -- PMR: bits 7-3
 pmr-word : (w : ℕ) → fits w 0xf8 ≡ true → w % 256 / 8 * 8 ≡ w
@@ -167,23 +159,18 @@ module _ (s : List ℕ) (h : Ready s) where
   header-word k l = rw (header-bits (count s) (vcpus s) k l) at (h .used k (omega arith))
 
   route-word : (id : ℕ) → 32 ≤ id → id < min (count s) 1020 → word s (routeAt id) < 2 ^ 24
-  unfolding usedBits
-  route-word id l m =
-      let e : routeAt id - 736 ≡ id = omega arith in
-      omega (arith, fits-le (word s (routeAt id)) 0x00ffffff
-      (rw (le-ltb (routeAt id) 16 (omega arith), le-ltb (routeAt id) 272 (omega arith), le-ltb (routeAt id) 752 (omega arith), le-ltb (routeAt id) 768 (omega arith),
-      lt-ltb (routeAt id) 1756 (omega arith), e, lt-ltb id (count s) (omega arith)) at (h .used (routeAt id) (omega arith))))
+  route-word id l m = omega (arith, fits-le (word s (routeAt id)) 0x00ffffff (rw (route-bits (count s) (vcpus s) id l m) at (h .used (routeAt id) (omega arith))))
+
+  -- the masks of the eight words of priorities, by one computed test
+  eight-masks : allBelow (λ j. eqb (getD bankBits (5 + j) 0) 0xf8f8f8f8 && (within 32 (getD lastBankBits (5 + j) 0) 0xf8f8f8f8 && eqb (getD blockBits (5 + j) 0) 0xf8f8f8f8)) 8 ≡ true
+  unfolding allBelow within
+  eight-masks = refl
 
   eight-words : (j : ℕ) → j < 8 → (getD bankBits (5 + j) 0 ≡ 0xf8f8f8f8) × (within 32 (getD lastBankBits (5 + j) 0) 0xf8f8f8f8 ≡ true) × (getD blockBits (5 + j) 0 ≡ 0xf8f8f8f8)
-  eight-words zero l = (refl, unfold within in refl, refl)
-  eight-words (suc zero) l = (refl, unfold within in refl, refl)
-  eight-words (suc (suc zero)) l = (refl, unfold within in refl, refl)
-  eight-words (suc (suc (suc zero))) l = (refl, unfold within in refl, refl)
-  eight-words (suc (suc (suc (suc zero)))) l = (refl, unfold within in refl, refl)
-  eight-words (suc (suc (suc (suc (suc zero))))) l = (refl, unfold within in refl, refl)
-  eight-words (suc (suc (suc (suc (suc (suc zero)))))) l = (refl, unfold within in refl, refl)
-  eight-words (suc (suc (suc (suc (suc (suc (suc zero))))))) l = (refl, unfold within in refl, refl)
-  eight-words (suc (suc (suc (suc (suc (suc (suc (suc j)))))))) l = absurd (omega arith)
+  eight-words j l =
+      let a = both (eqb (getD bankBits (5 + j) 0) 0xf8f8f8f8) _ (below-at _ 8 eight-masks j l) in
+      let b = both (within 32 (getD lastBankBits (5 + j) 0) 0xf8f8f8f8) (eqb (getD blockBits (5 + j) 0) 0xf8f8f8f8) (a .1) in
+      (eqb-true _ _ (a .0), b .0, eqb-true _ _ (b .1))
 
   spi-eights : (w j : ℕ) → SpiWord s w → j < 8 → fits (word s (256 + 16 * w + (5 + j))) 0xf8f8f8f8 ≡ true
   spi-eights w j q l = go (decLt w 31)

@@ -81,13 +81,11 @@ module _ (s : List ℕ) (h : Ready s) where
   pub flag-exists : (w k i : ℕ) → SpiWord s w → k < 5 → i < 32 → bit (word s (256 + 16 * w + k)) i ≡ true → isSpi s (32 * w + i) ≡ true
   flag-exists w k i q l m b = go (decLt w 31)
     where
+      masks : allBelow (λ j. eqb (getD lastBankBits j 0) 0x0fffffff) 5 ≡ true
+      masks = unfold allBelow in refl
+
       mask : (j : ℕ) → j < 5 → getD lastBankBits j 0 ≡ 0x0fffffff
-      mask zero r = refl
-      mask (suc zero) r = refl
-      mask (suc (suc zero)) r = refl
-      mask (suc (suc (suc zero))) r = refl
-      mask (suc (suc (suc (suc zero)))) r = refl
-      mask (suc (suc (suc (suc (suc j))))) r = absurd (omega arith)
+      mask j r = eqb-true _ _ (below-at (λ n. eqb (getD lastBankBits n 0) 0x0fffffff) 5 masks j r)
 
       go : Dec (w < 31) → isSpi s (32 * w + i) ≡ true
       go (yes r) = is-spi (32 * w + i) (omega (arith, q .low)) (omega (arith, q .high)) (omega arith)

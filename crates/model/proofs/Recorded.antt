@@ -107,7 +107,7 @@ module _ (from to : List ℕ) (hf : Stopped from) (ht : Fresh to) (same : Alike 
         ap (itemRead s) (sym (names-here l)) ∙ (rw (c .place, c .shape) at (reads-place s rs (c .there)))
 
   -- the value that the first device reads is one that some device of the target's set-up reads
-  value-readable : {a : Attribute} (l : Listed from a) → readable to (attributeOf a) (shown (shapeOf l) (word from (placeOf l))) ≡ true
+  pub value-readable : {a : Attribute} (l : Listed from a) → readable to (attributeOf a) (shown (shapeOf l) (word from (placeOf l))) ≡ true
   unfolding readable
   value-readable {a} l =
       let p = placeOf l in

@@ -21,6 +21,8 @@ pub data Row : Type 0 where
   answer : List Call → List ℤ → Row
   -- after the calls, one more hands back these bytes
   hands : List Call → Call → List ℕ → Row
+  -- after the calls, one more leaves these bytes in its whole buffer
+  fills : List Call → Call → List ℕ → Row
   -- after the calls, one more changes no word
   keeps : List Call → Call → Row
   -- two lists of numbers are the same
@@ -48,6 +50,7 @@ unfoldable pub meets : List ℕ → Row → Bool
 unfolding sameNumber sameWords answered bit gather withBit within lowest allBelow every each isPrivate isPpi isSpi exists pending setFlag entry usedBits freshBits allowedBits fits wordOk isCount setup isAffinity unused vcpuOk sound stopped fresh errno number firstFailing inRow decode rows flags shownTo ruleFor shows flagAfter has seenBy readFlags readPriority readConfig readRoute statusAt frameTyper read writeFlags writePriority writeConfig writeRoute writtenStatus write access byByte readAccess writeAccess guestRead guestWrite latches lineChanged systemIn system plainRead plainWrite plainTakes ownOrRouted groupOn candidate rank better scan best clearedBits groupPriority runningLevel runningPriority ofGroup gives offered levelOf setLevel taken levelClear acknowledged highestPending signal ended deactivated named targets reaches sgiSent systemRead systemReadNext systemReadClear systemWrite groupOf indexOf numberOk affinityKnown mappedItem mapped systemItem item known registerTakes takes itemRead itemWrite itemIn itemOf groupsOf encode more readGroups decodeNumber ofSpiWord ofRoute ofVcpuBlock listed entries entryRead entryBytes recordOf saved readable entryPut taking load restored faults loadedState call lends acceptable guestChecks frameChecks readChecks writeChecks hasLine registerChecks getChecks setChecks checks refusal systemValue getValue value made vcpuAdded initialisedNext systemReadState systemWriteState setState next lentBytes filled settle frontOf handedBack after trace
 meets s (answer cs rs) = answered cs rs s
 meets s (hands cs c bytes) = sameWords (handedBack (call c (after cs s))) bytes
+meets s (fills cs c bytes) = sameWords (call c (after cs s) .buffer) bytes
 meets s (keeps cs c) = let t = after cs s in sameWords (call c t .state) t
 meets s (same xs ys) = sameWords xs ys
 

@@ -36,6 +36,11 @@ and-implied true b h = refl
 and-implied false true h = absurd (true≢false (sym (h refl)))
 and-implied false false h = refl
 
+-- a test `not a || c` that holds, read as an implication
+pub implied : (a c : Bool) → (not a || c) ≡ true → a ≡ true → c ≡ true
+implied true c e t = e
+implied false c e t = absurd (true≢false (sym t))
+
 pub not-both : (a : Bool) → a ≡ true → a ≡ false → ⊥
 not-both a p q = true≢false (sym p ∙ q)
 

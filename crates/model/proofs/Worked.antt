@@ -11,46 +11,46 @@ use Rattle.model.proofs.Rows.{Row, answer, hands, keeps, same, unmet}
 
 -- ---- short names for what the rows ask
 
-abbrev irqs : ℕ → Call
+abbrev pub irqs : ℕ → Call
 irqs n = setAttribute 3 0 n
 
-abbrev init : Call
+abbrev pub init : Call
 init = setAttribute 4 0 0
 
-abbrev run : Call
+abbrev pub run : Call
 run = setRunning 0 true
 
-abbrev stop : Call
+abbrev pub stop : Call
 stop = setRunning 0 false
 
-abbrev dr : ℕ → Call
+abbrev pub dr : ℕ → Call
 dr off = readDistributor 0 off 4
 
-abbrev dw : ℕ → ℕ → Call
+abbrev pub dw : ℕ → ℕ → Call
 dw off x = writeDistributor 0 off 4 x
 
-abbrev sr : ℕ → Call
+abbrev pub sr : ℕ → Call
 sr e = readSystem 0 e
 
-abbrev sw : ℕ → ℕ → Call
+abbrev pub sw : ℕ → ℕ → Call
 sw e x = writeSystem 0 e x
 
 -- -e
-abbrev no : ℕ → ℤ
+abbrev pub no : ℕ → ℤ
 no e = negsuc (e - 1)
 
-abbrev ok : ℤ
+abbrev pub ok : ℤ
 ok = pos 0
 
 -- a device of n interrupts and one vCPU, of affinity 0, that runs
-abbrev device : ℕ → List Call
+abbrev pub device : ℕ → List Call
 device n = make ∷ irqs n ∷ addVcpu 0 ∷ init ∷ run ∷ []
 
 abbrev deviceOk : List ℤ
 deviceOk = ok ∷ ok ∷ ok ∷ ok ∷ ok ∷ []
 
 -- group 1 enabled, PMR and BPR1 given; SPIs 39 and 40 in group 1, enabled, of priorities 0xA0 and 0x98
-abbrev ready : ℕ → ℕ → List Call
+abbrev pub ready : ℕ → ℕ → List Call
 ready pmr bpr1 =
     dw 0 2 ∷ sw 0xc667 1 ∷ sw 0xc230 pmr ∷ sw 0xc663 bpr1
     ∷ dw 0x84 0x180 ∷ dw 0x104 0x180 ∷ dw 0x424 0xa0000000 ∷ dw 0x428 0x98 ∷ []
@@ -59,7 +59,7 @@ abbrev readyOk : List ℤ
 readyOk = ok ∷ ok ∷ ok ∷ ok ∷ ok ∷ ok ∷ ok ∷ ok ∷ []
 
 -- three vCPUs of affinities 0, 1 and 0x100; the second runs
-abbrev three : List Call
+abbrev pub three : List Call
 three = make ∷ irqs 64 ∷ addVcpu 0 ∷ addVcpu 1 ∷ addVcpu 0x100 ∷ init ∷ setRunning 1 true ∷ []
 
 -- ---- the table
@@ -123,7 +123,7 @@ p8 =
     ∷ []
 
 -- fresh, count 64, one vCPU 0: 76 bytes; a buffer of 75 is too short, and the rest of a longer one is not handed back
-abbrev freshRecord : List ℕ
+abbrev pub freshRecord : List ℕ
 freshRecord = 0x01 ∷ 0x40 ∷ 0x01 ∷ 0x00 ∷ 0x50 ∷ 0x00 ∷ (replicate 61 0 ++ (0x00 ∷ 0x80 ∷ 0x08 ∷ 0x02 ∷ 0x03 ∷ 0x00 ∷ 0x00 ∷ 0x00 ∷ 0x00 ∷ []))
 
 abbrev record76 : List Row
@@ -150,7 +150,7 @@ session =
     ∷ []
 
 -- the record of the session's device after its acknowledge: the latch is 0 and the line 1. Restored, it reads and behaves so
-abbrev busyRecord : List ℕ
+abbrev pub busyRecord : List ℕ
 busyRecord =
     0x01 ∷ 0x40 ∷ 0x01 ∷ 0x00 ∷ 0x52 ∷ 0x00
     ∷ 0x80 ∷ 0x01 ∷ 0x80 ∷ 0x01 ∷ 0x00 ∷ 0x80 ∷ 0x01 ∷ 0x80 ∷ 0x01 ∷ 0x00 ∷ 0x80 ∷ 0x80 ∷ 0x80 ∷ 0x80 ∷ 0x0a

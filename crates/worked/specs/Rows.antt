@@ -100,14 +100,14 @@ unfolding fill words changed same equal bytesLent asked agrees differs-from
     Registers.inRow Registers.decode Registers.rows Registers.flags Registers.shownTo Registers.ruleFor Registers.shows Registers.flagAfter
     Registers.has Registers.seenBy Registers.readFlags Registers.readPriority Registers.readConfig Registers.readRoute Registers.statusAt
     Registers.frameTyper Registers.read Registers.writeFlags Registers.writePriority Registers.writeConfig Registers.writeRoute
-    Registers.flagAfterStatus Registers.write Registers.access Registers.byByte Registers.readAccess Registers.writeAccess Registers.guestRead
+    Registers.writtenStatus Registers.write Registers.access Registers.byByte Registers.readAccess Registers.writeAccess Registers.guestRead
     Registers.guestWrite
     Lines.latches Lines.lineChanged
     Interface.systemIn Interface.system Interface.plainRead Interface.plainWrite Interface.plainTakes Interface.ownOrRouted Interface.groupOn
-    Interface.candidate Interface.rank Interface.better Interface.scan Interface.best Interface.clearedBits Interface.groupPriority Interface.runningLevel
-    Interface.runningPriority Interface.ofGroup Interface.gives Interface.offered Interface.levelOf Interface.setLevel Interface.taken
-    Interface.levelClear Interface.acknowledged Interface.highestPending Interface.signal Interface.ended Interface.deactivated Interface.named
-    Interface.targets Interface.reaches Interface.sgiSent Interface.systemRead Interface.systemReadNext Interface.systemReadClear
+    Interface.candidate Interface.rank Interface.better Interface.scan Interface.best Interface.clearedBits Interface.groupPriority
+    Interface.runningLevel Interface.runningPriority Interface.ofGroup Interface.gives Interface.offered Interface.levelOf Interface.setLevel
+    Interface.taken Interface.levelClear Interface.acknowledged Interface.highestPending Interface.signal Interface.ended Interface.deactivated
+    Interface.named Interface.targets Interface.reaches Interface.sgiSent Interface.systemRead Interface.systemReadNext Interface.systemReadClear
     Interface.systemWrite
     Attributes.groupOf Attributes.indexOf Attributes.numberOk Attributes.affinityKnown Attributes.mappedItem Attributes.mapped Attributes.systemItem
     Attributes.item Attributes.known Attributes.registerTakes Attributes.takes Attributes.itemRead Attributes.itemWrite Attributes.itemIn
