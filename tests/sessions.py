@@ -358,7 +358,7 @@ use mathlib.Core.Bool.{true, false}
 use mathlib.Core.List.{List, [], _∷_, _++_}
 use lib.ListN.{replicate}
 use Rattle.model.specs.Calls.{make, addVcpu, setRunning, changeLine, querySignal, readDistributor, writeDistributor, readFrame, writeFrame, readSystem, writeSystem, getAttribute, setAttribute, save, restore}
-use Rattle.worked.specs.Rows.{Row, gives, refuses, saves, words, changed, differs}
+use Rattle.worked.proofs.Rows.{Row, gives, refuses, saves, words, changed, differs}
 """
 USED = ("true", "false", "_++_", "replicate", "make", "addVcpu", "setRunning",
         "changeLine", "querySignal", "readDistributor", "writeDistributor",

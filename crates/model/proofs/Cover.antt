@@ -62,8 +62,15 @@ module _ (c n : ℕ) where
   unfolding usedBits
   route-bits id l m =
       let e : routeAt id - 736 ≡ id = omega arith in
-      rw (le-ltb (routeAt id) 16 (omega arith), le-ltb (routeAt id) 272 (omega arith), le-ltb (routeAt id) 752 (omega arith), le-ltb (routeAt id) 768 (omega arith),
-      lt-ltb (routeAt id) 1756 (omega arith), e, lt-ltb id c (omega arith))
+      rw (
+        le-ltb (routeAt id) 16 (omega arith),
+        le-ltb (routeAt id) 272 (omega arith),
+        le-ltb (routeAt id) 752 (omega arith),
+        le-ltb (routeAt id) 768 (omega arith),
+        lt-ltb (routeAt id) 1756 (omega arith),
+        e,
+        lt-ltb id c (omega arith),
+      )
 
   pub route-none : (p : ℕ) → 768 ≤ p → (p < 1756 → c ≤ p - 736) → usedBits c n p ≡ 0
   unfolding usedBits

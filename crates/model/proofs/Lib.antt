@@ -23,4 +23,3 @@ pub mod ReadsBack
 pub mod Demand
 pub mod Rows
 pub mod Worked
-pub mod Traps

@@ -93,7 +93,7 @@ module _ (s : List ℕ) (h : Ready s) where
           let e : w ≡ 31 = omega (arith, q .high, h .counted .most) in
           let f : 256 + 16 * w + k ≡ 752 + k = omega arith in
           let in28 : i < 28 = bit-below 28 0x0fffffff i (omega arith)
-              (fits-bit (word s (752 + k)) 0x0fffffff i (rw (mask k l) at (last k (omega arith) (omega (arith, q .high)))) (rw f at b)) in
+          (fits-bit (word s (752 + k)) 0x0fffffff i (rw (mask k l) at (last k (omega arith) (omega (arith, q .high)))) (rw f at b)) in
           is-spi (32 * w + i) (omega (arith, q .low)) (omega (arith, q .high)) (omega arith)
 
   -- a priority: word j of eight, a byte for each of four interrupts

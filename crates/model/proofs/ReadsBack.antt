@@ -312,10 +312,10 @@ module _ (s : List ℕ) (h : Ready s) where
       leaves _ o (rw (d, r) k) (renewed (256 + 16 * w + (13 + j)) 16 _ (o .inside) (omega arith) (λ i m t.
       ⊎-elim (λ c. inl (edge-may w j i q l m (c .0)))
       (λ c.
-          let a : (16 * (2 * w + j) + i) / 32 ≡ w = omega arith in
-          let b : (16 * (2 * w + j) + i) % 32 / 16 ≡ j = omega arith in
-          let f : (16 * (2 * w + j) + i) % 16 ≡ i = omega arith in
-          inr (rw (a, b, f, k) at c))
+      let a : (16 * (2 * w + j) + i) / 32 ≡ w = omega arith in
+      let b : (16 * (2 * w + j) + i) % 32 / 16 ≡ j = omega arith in
+      let f : (16 * (2 * w + j) + i) % 16 ≡ i = omega arith in
+      inr (rw (a, b, f, k) at c))
       (of-cond (isSpi s (16 * (2 * w + j) + i)) (bit value (2 * i + 1)) (edge s 0 (16 * (2 * w + j) + i)) t)))
 
   pub put-route : (id value : ℕ) → 32 ≤ id → id < min (count s) 1020 → Leaves s (routeAt id) (writeRoute s Distributor (2 * (id - 32)) value)

@@ -50,8 +50,12 @@ module _ (f s : List ℕ) (same : Alike f s) where
   pub same-entries : entries s ≡ entries f
   unfolding entries
   same-entries =
-      rw (same-listed, same .same-count, same .same-number,
-      each-same (λ v. header (affinity s v) ∷ []) (λ v. header (affinity f v) ∷ []) 0 (vcpus f) (λ v l m. ap (λ (x : ℕ). header x ∷ []) (same .same-affinities v (omega arith))))
+      rw (
+        same-listed,
+        same .same-count,
+        same .same-number,
+        each-same (λ v. header (affinity s v) ∷ []) (λ v. header (affinity f v) ∷ []) 0 (vcpus f) (λ v l m. ap (λ (x : ℕ). header x ∷ []) (same .same-affinities v (omega arith))),
+      )
 
 -- ---- what the entries of a stopped device are: small numbers of the header, and listed attributes
 
@@ -78,11 +82,18 @@ Good f (attributeOf a) = Listed f a
 
 pub good-entries : (f : List ℕ) → Ready f → All (Good f) (entries f)
 unfolding entries
-good-entries f h =
-    (omega arith, (omega (arith, h .counted .most), (omega (arith, h .few),
-    all-append (Good f) (each (λ v. header (affinity f v) ∷ []) 0 (vcpus f)) (map attributeOf (listed f))
-    (all-each (Good f) (λ v. header (affinity f v) ∷ []) 0 (vcpus f) (λ v l m. (fits-word f h (block v + 16) (omega (arith, h .few)), tt)))
-    (all-map (Good f) (listed f) (λ a m. family f h m)))))
+good-entries f h = (
+  omega arith,
+  (
+    omega (arith, h .counted .most),
+    (
+      omega (arith, h .few),
+      all-append (Good f) (each (λ v. header (affinity f v) ∷ []) 0 (vcpus f)) (map attributeOf (listed f))
+          (all-each (Good f) (λ v. header (affinity f v) ∷ []) 0 (vcpus f) (λ v l m. (fits-word f h (block v + 16) (omega (arith, h .few)), tt)))
+          (all-map (Good f) (listed f) (λ a m. family f h m)),
+    ),
+  ),
+)
 
 -- ---- loading what was written
 
@@ -136,13 +147,15 @@ module _ (from to : List ℕ) (hf : Stopped from) (ht : Fresh to) (same : Alike 
   loads : (es : List Entry) (s : List ℕ) → All (Good from) es → Between from to s → (t : List ℕ) × Loads es s t
   loads [] s g b = (s, record { loaded = unfold load entryBytes in refl; between = b; kept = λ p h. h; stored = λ a l m. absurd (List·Memᴰ·not-nil m) })
   loads (header x ∷ es) s g b =
-      let r = loads es s (g .1) b in
-      (r .0, record {
-        loaded = load-one (header x) es s s (unfold entryRead in (g .0)) (unfold readable entryRead in (eq-eqb x x refl)) (unfold entryPut in refl) ∙ r .1 .loaded;
-        between = r .1 .between;
-        kept = r .1 .kept;
-        stored = λ a l m. r .1 .stored a l (past x es a m);
-      })
+      let r = loads es s (g .1) b in (
+        r .0,
+        record {
+          loaded = load-one (header x) es s s (unfold entryRead in (g .0)) (unfold readable entryRead in (eq-eqb x x refl)) (unfold entryPut in refl) ∙ r .1 .loaded;
+          between = r .1 .between;
+          kept = r .1 .kept;
+          stored = λ a l m. r .1 .stored a l (past x es a m);
+        },
+      )
     where
       past : (x : ℕ) (es : List Entry) (a : Attribute) → List·Memᴰ (attributeOf a) (header x ∷ es) → List·Memᴰ (attributeOf a) es
       past x es a (List·Memᴰ·head e) = let y : _≡_ {A = ℕ} 0 1 = cc in absurd (omega arith)

@@ -30,8 +30,16 @@ vcpu-size s v = refl
 pub values : (s : List ℕ) → length (entries s) ≡ 5 + 23 * vcpus s + 15 * spiWords (count s) + spis (count s)
 unfolding entries listed
 values s =
-    rw (length-append, length-each (λ v. header (affinity s v) ∷ []) 1 (λ v. refl) 0 (vcpus s), length-map, length-append, length-append,
-    length-each ofSpiWord 15 spi-word-size 1 (spiWords (count s)), length-each ofRoute 1 route-size 32 (spis (count s)), length-each (ofVcpuBlock s) 22 (vcpu-size s) 0 (vcpus s))
+    rw (
+      length-append,
+      length-each (λ v. header (affinity s v) ∷ []) 1 (λ v. refl) 0 (vcpus s),
+      length-map,
+      length-append,
+      length-append,
+      length-each ofSpiWord 15 spi-word-size 1 (spiWords (count s)),
+      length-each ofRoute 1 route-size 32 (spis (count s)),
+      length-each (ofVcpuBlock s) 22 (vcpu-size s) 0 (vcpus s),
+    )
     (omega arith)
 
 pub fewest-and-most : (s : List ℕ) → Ready s → (75 ≤ length (entries s)) × (length (entries s) ≤ 1642)

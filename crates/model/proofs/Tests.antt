@@ -84,7 +84,7 @@ module _ (f : ℕ → Bool) where
   below-all zero h = refl
   below-all (suc n) h = and-true (h n (omega arith)) (below-all n (λ v l. h v (omega arith)))
 
--- ---- `lowest`: the first number at which a test holds
+  -- ---- `lowest`: the first number at which a test holds
 
   pub lowest-at : (n i : ℕ) → lowest f n i < i + n → f (lowest f n i) ≡ true
   unfolding lowest

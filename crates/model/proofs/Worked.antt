@@ -80,7 +80,7 @@ p2 =
 abbrev p3 : List Row
 p3 =
     answer (device 64 ++ (changeLine 0 39 true ∷ dr 0x204 ∷ dw 0x284 0x80 ∷ dr 0x204 ∷ dr 0x284 ∷ stop ∷ getAttribute 1 0x204 ∷ getAttribute 1 0x284 ∷ getAttribute 7 32 ∷ []))
-        (deviceOk ++ (ok ∷ pos 0x80 ∷ ok ∷ pos 0x80 ∷ pos 0x80 ∷ ok ∷ ok ∷ ok ∷ pos 0x80 ∷ []))
+    (deviceOk ++ (ok ∷ pos 0x80 ∷ ok ∷ pos 0x80 ∷ pos 0x80 ∷ ok ∷ ok ∷ ok ∷ pos 0x80 ∷ []))
     ∷ []
 
 -- priority 0xA0: PMR 0xA0 gives 1023, 0xA8 gives the ID and AP1R 0x00100000; the line is high, so it stays pending
@@ -88,7 +88,7 @@ abbrev p4 : List Row
 p4 =
     answer (device 64 ++ (ready 0xa0 3 ++ (changeLine 0 39 true ∷ sr 0xc660 ∷ sr 0xc662 ∷ []))) (deviceOk ++ (readyOk ++ (ok ∷ pos 1023 ∷ pos 39 ∷ [])))
     ∷ answer (device 64 ++ (ready 0xa8 3 ++ (changeLine 0 39 true ∷ sr 0xc660 ∷ sr 0xc648 ∷ sr 0xc644 ∷ dr 0x304 ∷ dr 0x204 ∷ [])))
-        (deviceOk ++ (readyOk ++ (ok ∷ pos 39 ∷ pos 0x00100000 ∷ ok ∷ pos 0x80 ∷ pos 0x80 ∷ [])))
+    (deviceOk ++ (readyOk ++ (ok ∷ pos 39 ∷ pos 0x00100000 ∷ ok ∷ pos 0x80 ∷ pos 0x80 ∷ [])))
     ∷ []
 
 -- 0xA0 acknowledged, then 0x98 pending: BPR1 3 or 5 preempts, 6 does not
@@ -102,7 +102,7 @@ abbrev p6 : List Row
 p6 =
     keeps (device 64 ++ (ready 0xf8 3 ++ (dw 0x204 0x80 ∷ sr 0xc660 ∷ []))) (sw 0xc641 39)
     ∷ answer (device 64 ++ (ready 0xf8 3 ++ (dw 0x204 0x80 ∷ sr 0xc660 ∷ sw 0xc641 39 ∷ sr 0xc648 ∷ sw 0xc661 39 ∷ sr 0xc648 ∷ dr 0x304 ∷ [])))
-        (deviceOk ++ (readyOk ++ (ok ∷ pos 39 ∷ ok ∷ pos 0x00100000 ∷ ok ∷ ok ∷ ok ∷ [])))
+    (deviceOk ++ (readyOk ++ (ok ∷ pos 39 ∷ ok ∷ pos 0x00100000 ∷ ok ∷ ok ∷ ok ∷ [])))
     ∷ []
 
 -- 1024 is 80 08, 2^32 - 1 is FF FF FF FF 0F; 80 00 is -74
@@ -117,9 +117,9 @@ p7 =
 abbrev p8 : List Row
 p8 =
     answer (three ++ (writeSystem 1 0xc65d 0x03000003 ∷ readFrame 1 0 0x10200 4 ∷ readFrame 1 1 0x10200 4 ∷ readFrame 1 2 0x10200 4 ∷ []))
-        (ok ∷ ok ∷ ok ∷ ok ∷ ok ∷ ok ∷ ok ∷ ok ∷ pos 8 ∷ pos 8 ∷ ok ∷ [])
+    (ok ∷ ok ∷ ok ∷ ok ∷ ok ∷ ok ∷ ok ∷ ok ∷ pos 8 ∷ pos 8 ∷ ok ∷ [])
     ∷ answer (three ++ (writeSystem 1 0xc65d 0x10003000000 ∷ readFrame 1 0 0x10200 4 ∷ readFrame 1 1 0x10200 4 ∷ readFrame 1 2 0x10200 4 ∷ []))
-        (ok ∷ ok ∷ ok ∷ ok ∷ ok ∷ ok ∷ ok ∷ ok ∷ pos 8 ∷ ok ∷ pos 8 ∷ [])
+    (ok ∷ ok ∷ ok ∷ ok ∷ ok ∷ ok ∷ ok ∷ ok ∷ pos 8 ∷ ok ∷ pos 8 ∷ [])
     ∷ []
 
 -- fresh, count 64, one vCPU 0: 76 bytes; a buffer of 75 is too short, and the rest of a longer one is not handed back
@@ -130,7 +130,7 @@ abbrev record76 : List Row
 record76 =
     hands (device 64 ++ (stop ∷ [])) (save (replicate 80 7)) freshRecord
     ∷ answer (device 64 ++ (save [] ∷ stop ∷ save (replicate 75 7) ∷ save (replicate 76 7) ∷ restore freshRecord ∷ restore (freshRecord ++ (0 ∷ [])) ∷ []))
-        (deviceOk ++ (no 16 ∷ ok ∷ no 28 ∷ pos 76 ∷ ok ∷ no 74 ∷ []))
+    (deviceOk ++ (no 16 ∷ ok ∷ no 28 ∷ pos 76 ∷ ok ∷ no 74 ∷ []))
     ∷ keeps (device 64 ++ (stop ∷ [])) (restore freshRecord)
     ∷ []
 
@@ -144,9 +144,9 @@ sessionCalls =
 abbrev session : List Row
 session =
     answer sessionCalls
-        (ok ∷ ok ∷ ok ∷ ok ∷ ok ∷ pos 0x3ff ∷ ok ∷ ok ∷ ok ∷ ok ∷ ok
-        ∷ ok ∷ ok ∷ pos 1 ∷ pos 0x27 ∷ pos 0x80 ∷ pos 0xa0 ∷ ok ∷ pos 1
-        ∷ ok ∷ ok ∷ [])
+    (ok ∷ ok ∷ ok ∷ ok ∷ ok ∷ pos 0x3ff ∷ ok ∷ ok ∷ ok ∷ ok ∷ ok
+    ∷ ok ∷ ok ∷ pos 1 ∷ pos 0x27 ∷ pos 0x80 ∷ pos 0xa0 ∷ ok ∷ pos 1
+    ∷ ok ∷ ok ∷ [])
     ∷ []
 
 -- the record of the session's device after its acknowledge: the latch is 0 and the line 1. Restored, it reads and behaves so
@@ -160,42 +160,42 @@ abbrev busy : List Row
 busy =
     hands (take 15 sessionCalls ++ (stop ∷ [])) (save (replicate 100 7)) busyRecord
     ∷ answer (device 64 ++ (stop ∷ restore busyRecord ∷ getAttribute 1 0x84 ∷ getAttribute 1 0x204 ∷ getAttribute 1 0x304 ∷ getAttribute 7 32 ∷ getAttribute 1 0x424
-        ∷ getAttribute 6 0xc648 ∷ restore busyRecord ∷ run ∷ dr 0x204 ∷ sr 0xc65b ∷ sw 0xc661 39 ∷ querySignal 0 ∷ []))
-        (deviceOk ++ (ok ∷ ok ∷ pos 0x80 ∷ ok ∷ pos 0x80 ∷ pos 0x80 ∷ pos 0xa0000000
-        ∷ pos 0x00100000 ∷ no 17 ∷ ok ∷ pos 0x80 ∷ pos 0xa0 ∷ ok ∷ pos 1 ∷ []))
+    ∷ getAttribute 6 0xc648 ∷ restore busyRecord ∷ run ∷ dr 0x204 ∷ sr 0xc65b ∷ sw 0xc661 39 ∷ querySignal 0 ∷ []))
+    (deviceOk ++ (ok ∷ ok ∷ pos 0x80 ∷ ok ∷ pos 0x80 ∷ pos 0x80 ∷ pos 0xa0000000
+    ∷ pos 0x00100000 ∷ no 17 ∷ ok ∷ pos 0x80 ∷ pos 0xa0 ∷ ok ∷ pos 1 ∷ []))
     -- another version, count, number of vCPUs or affinity; a missing number; a BPR0 that no device reads
     ∷ answer (device 64 ++ (stop ∷ restore (2 ∷ []) ∷ restore (1 ∷ 0x60 ∷ []) ∷ restore (1 ∷ 0x40 ∷ 2 ∷ []) ∷ restore (1 ∷ 0x40 ∷ 1 ∷ 1 ∷ []) ∷ restore (1 ∷ 0x40 ∷ 1 ∷ 0 ∷ 0x50 ∷ [])
-        ∷ restore (take 70 freshRecord ++ (1 ∷ [])) ∷ restore [] ∷ []))
-        (deviceOk ++ (ok ∷ no 22 ∷ no 22 ∷ no 22 ∷ no 22 ∷ no 74 ∷ no 22 ∷ no 74 ∷ []))
+    ∷ restore (take 70 freshRecord ++ (1 ∷ [])) ∷ restore [] ∷ []))
+    (deviceOk ++ (ok ∷ no 22 ∷ no 22 ∷ no 22 ∷ no 22 ∷ no 74 ∷ no 22 ∷ no 74 ∷ []))
     ∷ []
 
 -- at count 1024 the IDs 1020 to 1023 do not exist
 abbrev absent : List Row
 absent =
     answer (device 1024 ++ (dw 0x17c 0xffffffff ∷ dr 0x17c ∷ dw 0xcfc 0xffffffff ∷ dr 0xcfc ∷ dw 0x7fc 0xffffffff ∷ dr 0x7fc ∷ dw 0x7f8 0xffffffff ∷ dr 0x7f8
-        ∷ changeLine 0 1019 true ∷ changeLine 0 1020 true ∷ stop ∷ setAttribute 7 992 0xffffffff ∷ getAttribute 7 992
-        ∷ getAttribute 1 0x7fd8 ∷ getAttribute 1 0x7fdc ∷ getAttribute 1 0x7fe0 ∷ []))
-        (deviceOk ++ (ok ∷ pos 0x0fffffff ∷ ok ∷ pos 0x00aaaaaa ∷ ok ∷ ok ∷ ok ∷ pos 0xf8f8f8f8
-        ∷ ok ∷ no 22 ∷ ok ∷ ok ∷ pos 0x0fffffff ∷ ok ∷ ok ∷ no 6 ∷ []))
+    ∷ changeLine 0 1019 true ∷ changeLine 0 1020 true ∷ stop ∷ setAttribute 7 992 0xffffffff ∷ getAttribute 7 992
+    ∷ getAttribute 1 0x7fd8 ∷ getAttribute 1 0x7fdc ∷ getAttribute 1 0x7fe0 ∷ []))
+    (deviceOk ++ (ok ∷ pos 0x0fffffff ∷ ok ∷ pos 0x00aaaaaa ∷ ok ∷ ok ∷ ok ∷ pos 0xf8f8f8f8
+    ∷ ok ∷ no 22 ∷ ok ∷ ok ∷ pos 0x0fffffff ∷ ok ∷ ok ∷ no 6 ∷ []))
     ∷ []
 
 -- ICFGR before lines: group 7 latches nothing, also where the interrupt is edge already; a line change latches
 abbrev lines : List Row
 lines =
     answer (device 64 ++ (stop ∷ setAttribute 1 0xc08 0x8000 ∷ setAttribute 7 32 0x80 ∷ getAttribute 7 32 ∷ getAttribute 1 0x204 ∷ run ∷ dr 0x204
-        ∷ changeLine 0 39 false ∷ changeLine 0 39 true ∷ dr 0x204 ∷ changeLine 0 39 false ∷ dr 0x204 ∷ dw 0xc08 0 ∷ dw 0x284 0x80 ∷ dr 0x204 ∷ []))
-        (deviceOk ++ (ok ∷ ok ∷ ok ∷ pos 0x80 ∷ ok ∷ ok ∷ ok ∷ ok ∷ ok ∷ pos 0x80 ∷ ok ∷ pos 0x80 ∷ ok ∷ ok ∷ ok ∷ []))
+    ∷ changeLine 0 39 false ∷ changeLine 0 39 true ∷ dr 0x204 ∷ changeLine 0 39 false ∷ dr 0x204 ∷ dw 0xc08 0 ∷ dw 0x284 0x80 ∷ dr 0x204 ∷ []))
+    (deviceOk ++ (ok ∷ ok ∷ ok ∷ pos 0x80 ∷ ok ∷ ok ∷ ok ∷ ok ∷ ok ∷ pos 0x80 ∷ ok ∷ pos 0x80 ∷ ok ∷ ok ∷ ok ∷ []))
     ∷ []
 
 -- each refusal of the table but EIO, which a sound state never gives
 abbrev refusals : List Row
 refusals =
     answer (make ∷ init ∷ dr 0 ∷ addVcpu 0x10 ∷ addVcpu 0 ∷ addVcpu 0 ∷ addVcpu 1 ∷ addVcpu 2 ∷ addVcpu 3 ∷ addVcpu 4 ∷ addVcpu 5 ∷ addVcpu 6 ∷ addVcpu 7
-        ∷ addVcpu 8 ∷ init ∷ addVcpu 8 ∷ getAttribute 3 9 ∷ dr 0 ∷ readDistributor 8 0 4 ∷ getAttribute 2 0 ∷ getAttribute 4 0 ∷ getAttribute 1 0xc ∷ run
-        ∷ sr 0xc641 ∷ sw 0xc640 0 ∷ getAttribute 1 0 ∷ stop ∷ setAttribute 1 8 0 ∷ setAttribute 1 8 0x01001000 ∷ [])
-        (ok ∷ no 19 ∷ no 16 ∷ no 22 ∷ ok ∷ no 17 ∷ ok ∷ ok ∷ ok ∷ ok ∷ ok ∷ ok ∷ ok
-        ∷ no 12 ∷ ok ∷ no 16 ∷ pos 256 ∷ no 1 ∷ no 22 ∷ no 6 ∷ no 6 ∷ no 6 ∷ ok
-        ∷ no 6 ∷ no 6 ∷ no 16 ∷ ok ∷ no 22 ∷ ok ∷ [])
+    ∷ addVcpu 8 ∷ init ∷ addVcpu 8 ∷ getAttribute 3 9 ∷ dr 0 ∷ readDistributor 8 0 4 ∷ getAttribute 2 0 ∷ getAttribute 4 0 ∷ getAttribute 1 0xc ∷ run
+    ∷ sr 0xc641 ∷ sw 0xc640 0 ∷ getAttribute 1 0 ∷ stop ∷ setAttribute 1 8 0 ∷ setAttribute 1 8 0x01001000 ∷ [])
+    (ok ∷ no 19 ∷ no 16 ∷ no 22 ∷ ok ∷ no 17 ∷ ok ∷ ok ∷ ok ∷ ok ∷ ok ∷ ok ∷ ok
+    ∷ no 12 ∷ ok ∷ no 16 ∷ pos 256 ∷ no 1 ∷ no 22 ∷ no 6 ∷ no 6 ∷ no 6 ∷ ok
+    ∷ no 6 ∷ no 6 ∷ no 16 ∷ ok ∷ no 22 ∷ ok ∷ [])
     ∷ answer (getAttribute 3 0 ∷ init ∷ save [] ∷ []) (no 14 ∷ no 14 ∷ no 14 ∷ [])
     ∷ answer (device 64 ++ (stop ∷ setAttribute 1 0x10 1 ∷ restore freshRecord ∷ [])) (deviceOk ++ (ok ∷ ok ∷ no 17 ∷ []))
     ∷ []

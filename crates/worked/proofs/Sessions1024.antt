@@ -6,7 +6,7 @@ use Prim.Native.Nat.{ℕ}
 use mathlib.Core.Bool.{true, false}
 use mathlib.Core.List.{List, [], _∷_}
 use Rattle.model.specs.Calls.{make, addVcpu, setRunning, changeLine, querySignal, readDistributor, writeDistributor, readFrame, writeFrame, readSystem, writeSystem, getAttribute, setAttribute}
-use Rattle.worked.specs.Rows.{Row, gives, refuses, words, changed, differs}
+use Rattle.worked.proofs.Rows.{Row, gives, refuses, words, changed, differs}
 
 abbrev session-2-state-1 : List ℕ
 session-2-state-1 = words 1760 []

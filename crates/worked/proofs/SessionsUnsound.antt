@@ -7,7 +7,7 @@ use mathlib.Core.Bool.{true, false}
 use mathlib.Core.List.{List, [], _∷_}
 use lib.ListN.{replicate}
 use Rattle.model.specs.Calls.{make, addVcpu, setRunning, changeLine, querySignal, readDistributor, writeDistributor, readFrame, writeFrame, readSystem, writeSystem, getAttribute, setAttribute, save, restore}
-use Rattle.worked.specs.Rows.{Row, gives, refuses, words, differs}
+use Rattle.worked.proofs.Rows.{Row, gives, refuses, words, differs}
 
 abbrev unsound-65-state-1 : List ℕ
 unsound-65-state-1 = words 1760 ((0, 2) ∷ [])

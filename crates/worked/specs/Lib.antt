@@ -1,2 +1,1 @@
--- Rows of calls and answers, and the test that the definitions give them.
-pub mod Rows
+-- No definition of its own: the rows and their test stand in proofs/.

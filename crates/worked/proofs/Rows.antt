@@ -1,0 +1,55 @@
+-- A list of calls with the answer of each, and the test that the definitions give these answers and lead from one state to another.
+--     gives c a      the call c answers a
+--     refuses c e    the call c answers -e
+--     saves n h      a save into n bytes of 0xa5 hands back the bytes h, and its answer is their number
+-- A call leaves the bytes lent to it as they are, but for those that save hands back.
+use Prim.Native.Nat.{ℕ, zero, suc, _-_}
+use mathlib.Core.Bool.{Bool, true, false, cond, _&&_}
+use mathlib.Core.List.{List, [], _∷_, _++_}
+use lib.IntN.{ℤ, pos, negℤ}
+use lib.ListN.{length, replicate, set}
+use Rattle.model.specs.Calls.{Call, save, Outcome, call, handedBack, lends, lentBytes}
+use Rattle.model.proofs.Rows.{sameNumber, sameWords, meets}
+
+pub data Row : Type 0 where
+  gives : Call → ℕ → Row
+  refuses : Call → ℕ → Row
+  saves : ℕ → List ℕ → Row
+
+-- n words, zero but for those listed, each with its place; places rise
+fill : ℕ → ℕ → List (ℕ × ℕ) → List ℕ
+fill at n [] = replicate (n - at) 0
+fill at n (w ∷ ws) = replicate (w .0 - at) 0 ++ w .1 ∷ fill (suc (w .0)) n ws
+
+unfoldable pub words : ℕ → List (ℕ × ℕ) → List ℕ
+unfolding fill
+words n ws = fill 0 n ws
+
+-- the state s with the words listed
+unfoldable pub changed : List ℕ → List (ℕ × ℕ) → List ℕ
+changed s [] = s
+changed s (w ∷ ws) = changed (set s (w .0) (w .1)) ws
+
+-- the call of a row, and whether the outcome is what the row says
+asked : Row → Call
+asked (gives c a) = c
+asked (refuses c e) = c
+asked (saves n h) = save (replicate n 0xa5)
+
+agrees : Row → Outcome → Bool
+agrees (gives c a) o = sameNumber (o .answer) (pos a) && sameWords (o .buffer) (lentBytes (lends c))
+agrees (refuses c e) o = sameNumber (o .answer) (negℤ (pos e)) && sameWords (o .buffer) (lentBytes (lends c))
+agrees (saves n h) o = sameNumber (o .answer) (pos (length h)) && (sameWords (handedBack o) h && sameWords (o .buffer) (h ++ replicate (n - length h) 0xa5))
+
+differs-from : ℕ → List Row → List ℕ → List ℕ → ℕ
+differs-from k [] s to = cond (sameWords s to) 0 k
+differs-from k (r ∷ rs) s to =
+    let o : Outcome = call (asked r) s in
+    elim (agrees r o) [ true ↦ differs-from (suc k) rs (o .state) to | false ↦ k ]
+
+-- 0 if each row agrees and the calls lead from the first state to the last;
+-- else the number of the first row that does not agree, from 1, or of the rows and one more for the last state.
+-- With `meets` unfolds every definition that a call computes with, so that a theorem need name `differs` alone.
+unfoldable pub differs : List Row → List ℕ → List ℕ → ℕ
+unfolding fill words changed asked agrees differs-from meets
+differs rows from to = differs-from 1 rows from to
