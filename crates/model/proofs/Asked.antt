@@ -1,4 +1,4 @@
--- Gets and puts of listed attributes as calls: a get answers what the word shows, and a put that a get has answered for is granted and stores the word.
+-- Gets of listed attributes as calls: a get answers what the word shows, a put takes that value, and what an answered get tells of its number.
 use Prim.Native.Nat.{ℕ, zero, suc, _+_, _*_, _-_, _/_, _%_, _^_, _≤_, _<_}
 use mathlib.Core.Path.{_≡_, refl, sym, ap, ap₂, _∙_, subst}
 use mathlib.Core.Bool.{Bool, true, false, cond, _&&_, _||_, true≢false, false≢true}
@@ -15,7 +15,7 @@ use Rattle.model.specs.Sound.{sound, stopped}
 use Rattle.model.specs.Refusals.{none, refuse, errno}
 use Rattle.model.specs.Interface.{plainTakes}
 use Rattle.model.specs.Attributes.{Attribute, attr, low, high, groupOf, indexOf, numberOk, affinityKnown, mapped, item, itemIn, itemOf, known, registerTakes, takes, itemRead, itemWrite}
-use Rattle.model.specs.Calls.{Call, getAttribute, setAttribute, Outcome, call, lends, acceptable, registerChecks, getChecks, setChecks, checks, refusal, getValue, value, setState, next, filled}
+use Rattle.model.specs.Calls.{Call, getAttribute, setAttribute, Outcome, call, lentTo, acceptable, registerChecks, getChecks, setChecks, checks, refusal, getValue, value, setState, next, filled}
 use Rattle.model.specs.Record.{ofVcpu}
 use Rattle.model.specs.Demands.{Stopped, Alike}
 use Rattle.model.specs.declared.RegisterGroup.{RegisterGroup}
@@ -190,7 +190,7 @@ item-of a s q e = rw e
 -- ---- a get of a listed attribute answers what the word shows
 
 pub get-answers : (s : List ℕ) → Stopped s → {a : Attribute} → Listed s a → call (getAttribute (a .group) (a .number)) s .answer ≡ pos (itemRead s (itemOf a s))
-unfolding lends acceptable checks getChecks registerChecks value getValue
+unfolding lentTo acceptable checks getChecks registerChecks value getValue
 get-answers s hs {a} l = is-granted c s grants .answer ∙ ap pos (rw (e, ← i))
   where
     c : Call
@@ -219,7 +219,7 @@ pub record Answered (f : List ℕ) (q : RegisterGroup) (n v : ℕ) : Type 0 wher
   pub reads : itemRead f (item q n f) ≡ v
 
 pub get-answered : (f : List ℕ) (g n v : ℕ) (q : RegisterGroup) → groupOf g ≡ Registers q → call (getAttribute g n) f .answer ≡ pos v → Answered f q n v
-unfolding lends acceptable checks getChecks registerChecks value getValue
+unfolding lentTo acceptable checks getChecks registerChecks value getValue
 get-answered f g n v q e a = ⊎-elim told (λ r. absurd (sign _ (errno-positive (r .0)) (sym (r .1 .answer) ∙ a))) (every-call (getAttribute g n) f)
   where
     sign : (m : ℕ) → 0 < m → negℤ (pos m) ≡ pos v → ⊥

@@ -1,4 +1,4 @@
--- A device that was just made is sound; initialising a sound device leaves a fresh one, and a fresh one is sound.
+-- A device that was just made is sound; initialising a sound device with a vCPU leaves one that is fresh and sound.
 use Prim.Native.Nat.{ℕ, zero, suc, _+_, _*_, _-_, _/_, _%_, _^_, _≤_, _<_}
 use mathlib.Core.Path.{_≡_, refl, sym, ap, _∙_}
 use mathlib.Core.Bool.{Bool, true, false, not, cond, _&&_, _||_}

@@ -12,7 +12,7 @@ use Rattle.model.specs.Words.{bit, lowest}
 use Rattle.model.specs.Layout.{word, isInitialised, pmrAt, aprAt, running}
 use Rattle.model.specs.Interface.{system, best, nothing, found, rankPriority, groupPriority, runningLevel, ofGroup, gives, offered, levelOf, levelClear, systemReadClear}
 use Rattle.model.specs.Refusals.{Check, Refusal, none, refuse, firstFailing, errno}
-use Rattle.model.specs.Calls.{readSystem, lends, acceptable, guestChecks, readChecks, checks, isVcpu, refusal, call}
+use Rattle.model.specs.Calls.{readSystem, lentTo, acceptable, guestChecks, readChecks, checks, isVcpu, refusal, call}
 use Rattle.model.specs.declared.Errno.{Errno}
 use Rattle.model.specs.declared.Errno.the-variants.{Eperm, Enxio, Efault, Ebusy, Einval}
 use Rattle.model.specs.declared.Readable.{Readable}
@@ -115,7 +115,7 @@ checks-other v e s =
 
 refusal-other : (v e : ℕ) (s : List ℕ) → Other 5 (refusal (readSystem v e) s)
 unfolding refusal errno
-refusal-other v e s = step (acceptable (lends (readSystem v e)) s)
+refusal-other v e s = step (acceptable (lentTo (readSystem v e)) s)
   where
     step : (t : Bool) → Other 5 (elim t [ true ↦ firstFailing (checks (readSystem v e) s) | false ↦ refuse Efault ])
     step true = checks-other v e s

@@ -16,7 +16,7 @@ use Rattle.model.specs.Layout.{stateLength, word, count, vcpus, block, a
 use Rattle.model.specs.Attributes.{Attribute, attr, itemOf, takes, itemRead, itemWrite}
 use Rattle.model.specs.Record.{encode, decodeNumber, spiWords, spis, ofVcpu, ofSpiWord, ofRoute, ofVcpuBlock, listed, Entry, header, attributeOf, version, entries, entryRead, entryBytes, recordOf, readable, entryPut, Loaded, done, taking, load, restored, faults, loadedState, saved}
 use Rattle.model.specs.Refusals.{none}
-use Rattle.model.specs.Calls.{save, restore, Outcome, call, lends, acceptable, checks, refusal, value, next, filled, frontOf, handedBack, trace}
+use Rattle.model.specs.Calls.{save, restore, Outcome, call, lentTo, acceptable, checks, refusal, value, next, filled, frontOf, handedBack, trace}
 use Rattle.model.specs.declared.Item.{Item}
 use Rattle.model.specs.Demands.{Stopped, Fresh, Alike, Same, ByRecord}
 use Rattle.model.proofs.Tests.{and-true}
@@ -217,7 +217,7 @@ module _ (from to : List ℕ) (hf : Stopped from) (ht : Fresh to) (same : Alike 
   -- ---- restore of the record, as a call
 
   restore-grants : refusal (restore (recordOf from)) to ≡ none
-  unfolding lends acceptable checks faults
+  unfolding lentTo acceptable checks faults
   restore-grants =
       tests-next (restore (recordOf from)) to (ht .is-sound)
       ∙ rw loads-record (none-of _ (fresh-stopped to ht .is-stopped, (ht .is-fresh, tt)))
@@ -234,7 +234,7 @@ module _ (from to : List ℕ) (hf : Stopped from) (ht : Fresh to) (same : Alike 
 
 module _ (from buf : List ℕ) (hf : Stopped from) (room : length (recordOf from) ≤ length buf) where
   save-grants : refusal (save buf) from ≡ none
-  unfolding lends acceptable checks
+  unfolding lentTo acceptable checks
   save-grants = tests-next (save buf) from (hf .is-sound) ∙ none-of _ (hf .is-stopped, (le-leb (length (recordOf from)) (length buf) room, tt))
 
   pub save-answer : call (save buf) from .answer ≡ pos (length (recordOf from))
@@ -246,7 +246,7 @@ module _ (from buf : List ℕ) (hf : Stopped from) (room : length (recordOf from
   save-keeps = is-granted (save buf) from save-grants .state
 
   save-buffer : call (save buf) from .buffer ≡ recordOf from ++ drop (length (recordOf from)) buf
-  unfolding lends filled saved
+  unfolding lentTo filled saved
   save-buffer = is-granted (save buf) from save-grants .buffer
 
   -- what it hands back is the record

@@ -8,7 +8,7 @@ use native.Mathlib.Omega.{arith}
 use borrow.Author.Tests.{eq-eqb, ne-eqb, lt-ltb, le-ltb, le-leb, lt-leb, not-true, not-false}
 use lib.IntN.{pos, negsuc, negℤ}
 use Rattle.model.specs.Refusals.{Check, Refusal, none, refuse, firstFailing, errno, number}
-use Rattle.model.specs.Calls.{Call, Outcome, Does, lends, acceptable, checks, refusal, value, next, lentBytes, filled, settle, call}
+use Rattle.model.specs.Calls.{Call, Outcome, Does, lentTo, acceptable, checks, refusal, value, next, lentBytes, filled, settle, call}
 use Rattle.model.specs.declared.Errno.{Errno}
 use Rattle.model.specs.declared.Errno.the-variants.{Eperm, Eio, Enxio, Enomem, Efault, Ebusy, Eexist, Enodev, Einval, Enospc, Ebadmsg}
 use Rattle.model.specs.declared.Answer.the-variants.{Value, Refused}
@@ -54,26 +54,26 @@ holds-first (also e h) = rw (e, firstFailing) (holds-first h)
 
 -- ---- EFAULT first, then the call's own tests in their order
 
-pub fault-first : (c : Call) (s : List ℕ) → acceptable (lends c) s ≡ false → refusal c s ≡ refuse Efault
+pub fault-first : (c : Call) (s : List ℕ) → acceptable (lentTo c) s ≡ false → refusal c s ≡ refuse Efault
 unfolding refusal
 fault-first c s e = rw (e, refusal)
 
-pub tests-next : (c : Call) (s : List ℕ) → acceptable (lends c) s ≡ true → refusal c s ≡ firstFailing (checks c s)
+pub tests-next : (c : Call) (s : List ℕ) → acceptable (lentTo c) s ≡ true → refusal c s ≡ firstFailing (checks c s)
 unfolding refusal
 tests-next c s e = rw (e, refusal)
 
 -- a call whose state is not acceptable answers -14, whatever it is
-pub fault-answer : (c : Call) (s : List ℕ) → acceptable (lends c) s ≡ false → call c s .answer ≡ negℤ (pos 14)
+pub fault-answer : (c : Call) (s : List ℕ) → acceptable (lentTo c) s ≡ false → call c s .answer ≡ negℤ (pos 14)
 unfolding call settle number errno
 fault-answer c s e = ap (λ (r : Refusal). settle r c s .answer) (fault-first c s e)
 
 -- ---- every call is refused or not
 
-pub granted : (c : Call) (s : List ℕ) → refusal c s ≡ none → call c s ≡ record { answer = pos (value c s); state = next c s; buffer = filled (lends c) s }
+pub granted : (c : Call) (s : List ℕ) → refusal c s ≡ none → call c s ≡ record { answer = pos (value c s); state = next c s; buffer = filled (lentTo c) s }
 unfolding call settle number
 granted c s e = ap (λ (r : Refusal). settle r c s) e
 
-pub refused : (c : Call) (s : List ℕ) (e : Errno) → refusal c s ≡ refuse e → call c s ≡ record { answer = negℤ (pos (errno e)); state = s; buffer = lentBytes (lends c) }
+pub refused : (c : Call) (s : List ℕ) (e : Errno) → refusal c s ≡ refuse e → call c s ≡ record { answer = negℤ (pos (errno e)); state = s; buffer = lentBytes (lentTo c) }
 unfolding call settle number
 refused c s e h = ap (λ (r : Refusal). settle r c s) h
 
@@ -89,14 +89,14 @@ pub record IsRefused (c : Call) (s : List ℕ) (e : Errno) : Type 0 where
   pub refuses : refusal c s ≡ refuse e
   pub answer : call c s .answer ≡ negℤ (pos (errno e))
   pub state : call c s .state ≡ s
-  pub buffer : call c s .buffer ≡ lentBytes (lends c)
+  pub buffer : call c s .buffer ≡ lentBytes (lentTo c)
 
 -- a call that is not refused
 pub record IsGranted (c : Call) (s : List ℕ) : Type 0 where
   pub grants : refusal c s ≡ none
   pub answer : call c s .answer ≡ pos (value c s)
   pub state : call c s .state ≡ next c s
-  pub buffer : call c s .buffer ≡ filled (lends c) s
+  pub buffer : call c s .buffer ≡ filled (lentTo c) s
 
 pub is-refused : (c : Call) (s : List ℕ) (e : Errno) → refusal c s ≡ refuse e → IsRefused c s e
 is-refused c s e h =
@@ -161,23 +161,23 @@ negative-refused c s =
 
 -- ---- the same, as a function promises it
 
-pub faults : (c : Call) (s : List ℕ) → acceptable (lends c) s ≡ false → Does (call c s) (number (Refused Efault)) s (lentBytes (lends c))
+pub faults : (c : Call) (s : List ℕ) → acceptable (lentTo c) s ≡ false → Does (call c s) (number (Refused Efault)) s (lentBytes (lentTo c))
 unfolding number
 faults c s e = rw (refused c s Efault (fault-first c s e)) (record { answer = refl; state = refl; buffer = refl })
 
-pub refuses-first : (c : Call) (s : List ℕ) (e : Errno) → acceptable (lends c) s ≡ true → firstFailing (checks c s) ≡ refuse e → Does (call c s) (number (Refused e)) s (lentBytes (lends c))
+pub refuses-first : (c : Call) (s : List ℕ) (e : Errno) → acceptable (lentTo c) s ≡ true → firstFailing (checks c s) ≡ refuse e → Does (call c s) (number (Refused e)) s (lentBytes (lentTo c))
 unfolding number
 refuses-first c s e a h = rw (refused c s e (tests-next c s a ∙ h)) (record { answer = refl; state = refl; buffer = refl })
 
-pub grants-first : (c : Call) (s : List ℕ) (v : ℕ) (t b : List ℕ) → acceptable (lends c) s ≡ true → firstFailing (checks c s) ≡ none → v ≡ value c s → t ≡ next c s → b ≡ filled (lends c) s
+pub grants-first : (c : Call) (s : List ℕ) (v : ℕ) (t b : List ℕ) → acceptable (lentTo c) s ≡ true → firstFailing (checks c s) ≡ none → v ≡ value c s → t ≡ next c s → b ≡ filled (lentTo c) s
     → Does (call c s) (number (Value v)) t b
 unfolding number
 grants-first c s v t b a h p q r = rw (granted c s (tests-next c s a ∙ h)) (record { answer = ap pos p; state = q; buffer = r })
 
-pub refuses : (c : Call) (s : List ℕ) (e : Errno) → acceptable (lends c) s ≡ true → Fails (checks c s) e → Does (call c s) (number (Refused e)) s (lentBytes (lends c))
+pub refuses : (c : Call) (s : List ℕ) (e : Errno) → acceptable (lentTo c) s ≡ true → Fails (checks c s) e → Does (call c s) (number (Refused e)) s (lentBytes (lentTo c))
 refuses c s e a h = refuses-first c s e a (fails-first h)
 
-pub grants : (c : Call) (s : List ℕ) (v : ℕ) (t b : List ℕ) → acceptable (lends c) s ≡ true → Holds (checks c s) → v ≡ value c s → t ≡ next c s → b ≡ filled (lends c) s
+pub grants : (c : Call) (s : List ℕ) (v : ℕ) (t b : List ℕ) → acceptable (lentTo c) s ≡ true → Holds (checks c s) → v ≡ value c s → t ≡ next c s → b ≡ filled (lentTo c) s
     → Does (call c s) (number (Value v)) t b
 grants c s v t b a h p q r = grants-first c s v t b a (holds-first h) p q r
 

@@ -1,4 +1,4 @@
--- Demand 3: putting the listed attributes of a stopped device into a fresh one, or restoring its record there, makes the two equal and for ever after alike.
+-- Demand 3 by attributes: putting the listed attributes of a stopped device into a fresh one of the same set-up makes the two equal and for ever after alike.
 use Prim.Native.Nat.{ℕ, zero, suc, _+_, _*_, _-_, _/_, _%_, _^_, _≤_, _<_, min}
 use mathlib.Core.Path.{_≡_, refl, sym, ap, ap₂, _∙_, subst}
 use mathlib.Core.Bool.{Bool, true, false, cond, _&&_}
@@ -16,7 +16,7 @@ use Rattle.model.specs.Layout.{stateLength, word, initialised, count, vc
 use Rattle.model.specs.Sound.{sound, stopped, fresh, fits, freshBits, freshBlockBits, entry}
 use Rattle.model.specs.Attributes.{Attribute, attr, itemOf, item, known, takes, itemRead, itemWrite, groupOf}
 use Rattle.model.specs.Record.{listed}
-use Rattle.model.specs.Calls.{Call, getAttribute, setAttribute, Outcome, call, lends, acceptable, registerChecks, setChecks, checks, refusal, value, setState, next, after, trace}
+use Rattle.model.specs.Calls.{Call, getAttribute, setAttribute, Outcome, call, lentTo, acceptable, registerChecks, setChecks, checks, refusal, value, setState, next, after, trace}
 use Rattle.model.specs.Refusals.{Refusal, none, refuse}
 use Rattle.model.specs.Demands.{Stopped, Fresh, Alike, Put, puts, Allowed, put, get, refused, Restoring, one, Whole, Same, ByAttributes}
 use Rattle.model.specs.Demands as demands
@@ -117,7 +117,7 @@ module _ (from to : List ℕ) (hf : Stopped from) (ht : Fresh to) (same : Alike 
     pub state : call c s .state ≡ set s p (word from p)
 
   pub put-stores : (s : List ℕ) → Between from to s → {a : Attribute} {c : Call} (l : Listed from a) → Put from a c → Stores c s (placeOf l)
-  unfolding lends acceptable checks setChecks registerChecks value next setState
+  unfolding lentTo acceptable checks setChecks registerChecks value next setState
   put-stores s b {a} l (puts n v e g) =
       record { answer = is-granted c s grants .answer; state = is-granted c s grants .state ∙ rw (eg, i, is-value) (item-put s b l) }
     where

@@ -1,4 +1,4 @@
--- Laws of the tests: `&&`, `||`, `every`, `allBelow`, `lowest`, and the first of a list of checks that fails.
+-- Laws of the tests: `&&`, `||`, `every`, `allBelow`, `lowest`.
 use Prim.Native.Nat.{ℕ, zero, suc, _+_, _<_, _≤_}
 use mathlib.Core.Path.{_≡_, refl, sym, ap, _∙_, subst}
 use mathlib.Core.Bool.{Bool, true, false, not, cond, _&&_, _||_, true≢false, false≢true}

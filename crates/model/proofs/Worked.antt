@@ -1,4 +1,4 @@
--- The worked examples of document 01 as one table, computed through `call` from a state of any content.
+-- The worked examples of document 01 as one table, computed through `call` from 1,760 words of 7, which are no device.
 use Prim.Native.Nat.{ℕ, _+_, _*_, _-_, _^_}
 use mathlib.Core.Path.{_≡_, refl}
 use mathlib.Core.Bool.{Bool, true, false}

@@ -62,22 +62,22 @@ pub data Lent : Type 0 where
   anyState aDevice : Lent
   aBuffer aRecord : List ℕ → Lent
 
-unfoldable pub lends : Call → Lent
-lends make = anyState
-lends (addVcpu a) = aDevice
-lends (setRunning v on) = aDevice
-lends (changeLine v id level) = aDevice
-lends (querySignal v) = aDevice
-lends (readDistributor v off size) = aDevice
-lends (writeDistributor v off size x) = aDevice
-lends (readFrame v f off size) = aDevice
-lends (writeFrame v f off size x) = aDevice
-lends (readSystem v e) = aDevice
-lends (writeSystem v e x) = aDevice
-lends (getAttribute g a) = aDevice
-lends (setAttribute g a x) = aDevice
-lends (save buf) = aBuffer buf
-lends (restore bytes) = aRecord bytes
+unfoldable pub lentTo : Call → Lent
+lentTo make = anyState
+lentTo (addVcpu a) = aDevice
+lentTo (setRunning v on) = aDevice
+lentTo (changeLine v id level) = aDevice
+lentTo (querySignal v) = aDevice
+lentTo (readDistributor v off size) = aDevice
+lentTo (writeDistributor v off size x) = aDevice
+lentTo (readFrame v f off size) = aDevice
+lentTo (writeFrame v f off size x) = aDevice
+lentTo (readSystem v e) = aDevice
+lentTo (writeSystem v e x) = aDevice
+lentTo (getAttribute g a) = aDevice
+lentTo (setAttribute g a x) = aDevice
+lentTo (save buf) = aBuffer buf
+lentTo (restore bytes) = aRecord bytes
 
 -- EFAULT comes first everywhere: the state is not sound; for making a device, of wrong length
 unfoldable pub acceptable : Lent → List ℕ → Bool
@@ -148,7 +148,7 @@ checks (save buf) s = (stopped s, Ebusy) ∷ (leb (length (recordOf s)) (length 
 checks (restore bytes) s = (stopped s, Ebusy) ∷ (fresh s, Eexist) ∷ faults (restored s bytes)
 
 unfoldable pub refusal : Call → List ℕ → Refusal
-refusal c s = elim (acceptable (lends c) s) [ true ↦ firstFailing (checks c s) | false ↦ refuse Efault ]
+refusal c s = elim (acceptable (lentTo c) s) [ true ↦ firstFailing (checks c s) | false ↦ refuse Efault ]
 
 -- ---- what a call that is not refused answers: all but reads, queries and save answer 0
 
@@ -253,8 +253,8 @@ pub record Outcome : Type 0 where
 
 -- a refused call changes nothing
 unfoldable pub settle : Refusal → Call → List ℕ → Outcome
-settle none c s = record { answer = number (Value (value c s)); state = next c s; buffer = filled (lends c) s }
-settle (refuse e) c s = record { answer = number (Refused e); state = s; buffer = lentBytes (lends c) }
+settle none c s = record { answer = number (Value (value c s)); state = next c s; buffer = filled (lentTo c) s }
+settle (refuse e) c s = record { answer = number (Refused e); state = s; buffer = lentBytes (lentTo c) }
 
 unfoldable pub call : Call → List ℕ → Outcome
 call c s = settle (refusal c s) c s

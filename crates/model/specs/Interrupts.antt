@@ -16,10 +16,11 @@ isPrivate id = ltb id 32
 unfoldable pub isPpi : ℕ → Bool
 isPpi id = leb 16 id && ltb id 32
 
--- SPIs are from 32 to below the count and below 1020
+-- in an initialised device the IDs that exist are those below this
 abbrev pub idsBelow : ℕ → ℕ
 idsBelow c = min c 1020
 
+-- SPIs are from 32 to below the count and below 1020
 unfoldable pub isSpi : List ℕ → ℕ → Bool
 isSpi s id = leb 32 id && ltb id (idsBelow (count s))
 

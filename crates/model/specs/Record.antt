@@ -113,7 +113,7 @@ saved s buf = let r = recordOf s in r ++ drop (length r) buf
 -- ---- restore
 
 -- Some device of the target's count and affinities reads v there: for the header, v is the target's own number; for an attribute, a put of v to the
--- target is taken and reads back as v (proofs/ReadsBack has that this is so exactly where some device reads v).
+-- target is taken and reads back as v (proved in proofs/ReadsBack, `readable-exactly`: so it is exactly where some such device reads v).
 unfoldable pub readable : List ℕ → Entry → ℕ → Bool
 readable t (header x) v = eqb v x
 readable t (attributeOf a) v = let i = itemOf a t in takes i v && eqb (itemRead (itemWrite t i v) i) v

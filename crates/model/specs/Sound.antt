@@ -50,8 +50,8 @@ freshBlockBits =
 unfoldable pub entry : Bool → List ℕ → ℕ → ℕ
 entry e bits j = cond e (getD bits j 0) 0
 
--- word k of an initialised device of c interrupts and n vCPUs: up to 16 the device's own, up to 272 the vCPUs' blocks, up to 752 the banks of the
--- SPIs below 992, up to 768 the last bank, up to 1756 the SPIs' routes
+-- word k of an initialised device of c interrupts and n vCPUs: below 16 the device's own, below 272 the vCPUs' blocks, below 752 the banks of the
+-- SPIs 32 to 991, below 768 the last bank, below 1756 the SPIs' routes
 unfoldable pub usedBits : ℕ → ℕ → ℕ → ℕ
 usedBits c n k =
     cond (ltb k 16) (entry true headerBits k)

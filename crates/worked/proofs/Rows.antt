@@ -8,7 +8,7 @@ use mathlib.Core.Bool.{Bool, true, false, cond, _&&_}
 use mathlib.Core.List.{List, [], _∷_, _++_}
 use lib.IntN.{ℤ, pos, negℤ}
 use lib.ListN.{length, replicate, set}
-use Rattle.model.specs.Calls.{Call, save, Outcome, call, handedBack, lends, lentBytes}
+use Rattle.model.specs.Calls.{Call, save, Outcome, call, handedBack, lentTo, lentBytes}
 use Rattle.model.proofs.Rows.{sameNumber, sameWords, meets}
 
 pub data Row : Type 0 where
@@ -37,8 +37,8 @@ asked (refuses c e) = c
 asked (saves n h) = save (replicate n 0xa5)
 
 agrees : Row → Outcome → Bool
-agrees (gives c a) o = sameNumber (o .answer) (pos a) && sameWords (o .buffer) (lentBytes (lends c))
-agrees (refuses c e) o = sameNumber (o .answer) (negℤ (pos e)) && sameWords (o .buffer) (lentBytes (lends c))
+agrees (gives c a) o = sameNumber (o .answer) (pos a) && sameWords (o .buffer) (lentBytes (lentTo c))
+agrees (refuses c e) o = sameNumber (o .answer) (negℤ (pos e)) && sameWords (o .buffer) (lentBytes (lentTo c))
 agrees (saves n h) o = sameNumber (o .answer) (pos (length h)) && (sameWords (handedBack o) h && sameWords (o .buffer) (h ++ replicate (n - length h) 0xa5))
 
 differs-from : ℕ → List Row → List ℕ → List ℕ → ℕ
@@ -49,7 +49,7 @@ differs-from k (r ∷ rs) s to =
 
 -- 0 if each row agrees and the calls lead from the first state to the last;
 -- else the number of the first row that does not agree, from 1, or of the rows and one more for the last state.
--- With `meets` unfolds every definition that a call computes with, so that a theorem need name `differs` alone.
+-- Unfolding `meets` unfolds every definition that a call computes with, so a theorem need name `differs` alone.
 unfoldable pub differs : List Row → List ℕ → List ℕ → ℕ
 unfolding fill words changed asked agrees differs-from meets
 differs rows from to = differs-from 1 rows from to

@@ -1,1 +1,1 @@
-// Sessions of calls, computed through the definitions of model. There is nothing to run.
+// Rows and sessions of calls, computed through the definitions of model. There is nothing to run.

@@ -313,7 +313,7 @@ pub on-three-met : unmet (after three (replicate 1760 7)) 1 onThree ≡ 0
 unfolding unmet onThree
 on-three-met = refl
 
--- ---- on a state of any content
+-- ---- on 1,760 words of 7, which are no device
 
 -- with eight vCPUs a bad affinity is 22, one in use 17, any other 12
 abbrev vcpus : List Row
@@ -346,12 +346,12 @@ affinityOrder =
     (ok ∷ ok ∷ ok ∷ ok ∷ ok ∷ no 22 ∷ no 74 ∷ [])
     ∷ []
 
-pub traps : List Row
-traps = vcpus ++ (initialising ++ affinityOrder)
+pub onNoDevice : List Row
+onNoDevice = vcpus ++ (initialising ++ affinityOrder)
 
-pub traps-met : unmet (replicate 1760 7) 1 traps ≡ 0
-unfolding unmet traps
-traps-met = refl
+pub on-no-device-met : unmet (replicate 1760 7) 1 onNoDevice ≡ 0
+unfolding unmet onNoDevice
+on-no-device-met = refl
 
 -- ---- on a state of wrong length: making a device is refused and changes nothing
 
