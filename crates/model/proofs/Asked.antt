@@ -1,35 +1,32 @@
 -- Gets of listed attributes as calls: a get answers what the word shows, a put takes that value, and what an answered get tells of its number.
-use Prim.Native.Nat.{ℕ, zero, suc, _+_, _*_, _-_, _/_, _%_, _^_, _≤_, _<_}
-use mathlib.Core.Path.{_≡_, refl, sym, ap, ap₂, _∙_, subst}
-use mathlib.Core.Bool.{Bool, true, false, cond, _&&_, _||_, true≢false, false≢true}
-use mathlib.Core.List.{List, [], _∷_, _++_}
-use mathlib.Core.Logic.{_⊎_, inl, inr, ⊎-elim}
+use Prim.Native.Nat.{ℕ, zero, suc, _+_, _*_, _/_, _%_, _^_, _≤_, _<_}
+use mathlib.Core.Path.{_≡_, refl, sym, ap, _∙_}
+use mathlib.Core.Bool.{Bool, true, false, true≢false, false≢true}
+use mathlib.Core.List.{List}
+use mathlib.Core.Logic.{⊎-elim}
 use native.Mathlib.Omega.{arith}
 use borrow.Author.Tests.{eq-eqb, lt-ltb, le-ltb}
 use lib.Dec.{eqb, ltb}
-use lib.IntN.{ℤ, pos, negsuc, negℤ}
-use lib.ListN.{set}
+use lib.IntN.{pos, negℤ}
 use Rattle.model.specs.Words.{lowest}
-use Rattle.model.specs.Layout.{word, count, vcpus, block, affinity}
-use Rattle.model.specs.Sound.{sound, stopped}
-use Rattle.model.specs.Refusals.{none, refuse, errno}
+use Rattle.model.specs.Layout.{word, vcpus, block, affinity}
+use Rattle.model.specs.Sound.{sound}
+use Rattle.model.specs.Refusals.{none}
 use Rattle.model.specs.Interface.{plainTakes}
-use Rattle.model.specs.Attributes.{Attribute, attr, low, high, groupOf, indexOf, numberOk, affinityKnown, mapped, item, itemIn, itemOf, known, registerTakes, takes, itemRead, itemWrite}
-use Rattle.model.specs.Calls.{Call, getAttribute, setAttribute, Outcome, call, lentTo, acceptable, registerChecks, getChecks, setChecks, checks, refusal, getValue, value, setState, next, filled}
+use Rattle.model.specs.Attributes.{Attribute, low, high, groupOf, indexOf, numberOk, affinityKnown, item, itemIn, itemOf, known, registerTakes, takes, itemRead}
+use Rattle.model.specs.Calls.{Call, getAttribute, call, lentTo, acceptable, registerChecks, getChecks, checks, refusal, getValue, value}
 use Rattle.model.specs.Record.{ofVcpu}
 use Rattle.model.specs.Demands.{Stopped, Alike}
 use Rattle.model.specs.declared.RegisterGroup.{RegisterGroup}
 use Rattle.model.specs.declared.RegisterGroup.the-variants.{Distributor, Redistributor, Interface, Lines}
-use Rattle.model.specs.declared.AttributeGroup.{AttributeGroup}
-use Rattle.model.specs.declared.AttributeGroup.the-variants.{Registers, Count, Initialise, Unknown}
-use Rattle.model.specs.declared.Item.{Item}
+use Rattle.model.specs.declared.AttributeGroup.the-variants.{Registers}
 use Rattle.model.proofs.Tests.{and-true}
 use Rattle.model.proofs.Soundness.{Ready, ready, stopped-mark}
-use Rattle.model.proofs.Refused.{Passed, passed, none-of, tests-next, fault-first, granted, refused, IsGranted, IsRefused, is-granted, every-call, errno-positive}
-use Rattle.model.proofs.Readings.{SpiWord, block-word}
-use Rattle.model.proofs.Listed.{Listed, groups, enables, latches, actives, Stored, pmr, ctlr, bpr0, bpr1, ap0r, ap1r, igrpen0, igrpen1, encodingOf, control, status, spi-flags, spi-lines, spi-priority, spi-config, spi-route, vcpu-status, vcpu-flags, vcpu-lines, vcpu-priority, vcpu-system}
-use Rattle.model.proofs.Places.{small-encoding, placeOf, shown, shapeOf, namedBy, index-of, vcpu-parts, names-item, reads-place}
-use Rattle.model.proofs.Cover.{Shows, shows}
+use Rattle.model.proofs.Refused.{passed, none-of, tests-next, fault-first, IsGranted, is-granted, every-call, errno-positive}
+use Rattle.model.proofs.Readings.{block-word}
+use Rattle.model.proofs.Listed.{Listed, groups, enables, latches, actives, pmr, ctlr, bpr0, bpr1, ap0r, ap1r, igrpen0, igrpen1, encodingOf, control, status, spi-flags, spi-lines, spi-priority, spi-config, spi-route, vcpu-status, vcpu-flags, vcpu-lines, vcpu-priority, vcpu-system}
+use Rattle.model.proofs.Places.{small-encoding, placeOf, shown, shapeOf, namedBy, index-of, vcpu-parts, names-item}
+use Rattle.model.proofs.Cover.{shows}
 use Rattle.model.proofs.Puts.{ctlr-word}
 
 -- ---- the group of a listed attribute

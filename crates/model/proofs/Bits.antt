@@ -1,13 +1,13 @@
 -- Laws of `bit` and `gather`: a word below 2 ^ n is its n bits.
-use Prim.Native.Nat.{ℕ, zero, suc, _+_, _*_, _-_, _/_, _%_, _^_, _<_, _≤_}
-use mathlib.Core.Path.{_≡_, refl, sym, ap, _∙_, subst}
+use Prim.Native.Nat.{ℕ, zero, suc, _+_, _*_, _-_, _/_, _%_, _^_, _<_}
+use mathlib.Core.Path.{_≡_, refl, sym, ap, _∙_}
 use mathlib.Core.Bool.{Bool, true, false}
 use native.Mathlib.Nat.{mod-lt, mod-eq-of-lt, add-comm, mod-one}
-use native.Mathlib.Numerals.{add-one, one-add}
+use native.Mathlib.Numerals.{one-add}
 use native.Mathlib.Omega.{arith}
 use native.Mathlib.Decide.{decLt}
 use lib.Dec.{eqb}
-use lib.Pow.{pow-pos, pow-add, mod-pow-add, high, low, field, mod-mod-pow}
+use lib.Pow.{pow-add, mod-pow-add, high, low, field, mod-mod-pow}
 use Rattle.model.specs.Words.{val, bit, gather}
 
 pub val-lt : (b : Bool) → val b < 2

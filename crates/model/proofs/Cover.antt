@@ -8,20 +8,20 @@ use native.Mathlib.Decide.{ℕ-discrete, decLt}
 use native.Mathlib.Omega.{arith}
 use borrow.Author.Tests.{lt-ltb, le-ltb}
 use lib.Dec.{ltb}
-use lib.ListN.{length, getD, List·getD-eq-default}
+use lib.ListN.{getD, List·getD-eq-default}
 use lib.Seq.{ext-getD}
-use Rattle.model.specs.Layout.{stateLength, word, initialised, count, vcpus, block, affinity, running, routeAt}
-use Rattle.model.specs.Sound.{sound, stopped, fits, usedBits, entry, headerBits, blockBits, bankBits, lastBankBits}
+use Rattle.model.specs.Layout.{stateLength, word, count, vcpus, block, running, routeAt}
+use Rattle.model.specs.Sound.{fits, usedBits, entry, headerBits, blockBits, bankBits, lastBankBits}
 use Rattle.model.specs.Attributes.{Attribute, attr, itemOf, itemRead}
 use Rattle.model.specs.Record.{listed, ofVcpu}
 use Rattle.model.specs.declared.Item.{Item}
 use Rattle.model.specs.Demands.{Stopped, Alike}
 use Rattle.model.proofs.Within.{fits-lt, fits-le, fits-none}
-use Rattle.model.proofs.Soundness.{Count, Ready, ready, stopped-mark, stopped-running, Vcpu, open-vcpu}
+use Rattle.model.proofs.Soundness.{Ready, ready, stopped-mark, stopped-running, open-vcpu}
 use Rattle.model.proofs.Bits.{gather-lt}
 use Rattle.model.proofs.Readings.{SpiWord, spread, block-word}
 use Rattle.model.proofs.Listed.{Kept, groups, enables, latches, actives, offsetOf, Stored, pmr, ctlr, bpr0, bpr1, ap0r, ap1r, igrpen0, igrpen1, encodingOf, Listed, control, status, spi-flags, spi-lines, spi-priority, spi-config, spi-route, vcpu-status, vcpu-flags, vcpu-lines, vcpu-priority, vcpu-system, member}
-use Rattle.model.proofs.Places.{fieldOf, storedAt, field-small, stored-small, placeOf, Shape, itself, edges, above, shown, shapeOf, roomOf, shown-once, namedBy, reads-place}
+use Rattle.model.proofs.Places.{fieldOf, storedAt, field-small, stored-small, placeOf, Shape, itself, edges, shown, shapeOf, roomOf, shown-once, namedBy, reads-place}
 
 -- ---- the bits that a word may have, region by region
 

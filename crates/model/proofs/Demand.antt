@@ -1,10 +1,7 @@
 -- Demand 3, whole: the proposition of specs/Demands holds.
-use Prim.Native.Nat.{ℕ}
-use mathlib.Core.Path.{_≡_, _∙_}
-use mathlib.Core.List.{List}
-use Rattle.model.specs.Record.{entryRead, attributeOf}
-use Rattle.model.specs.Demands.{Stopped, Demand3}
-use Rattle.model.proofs.Soundness.{Ready, ready, stopped-mark}
+use Rattle.model.specs.Record.{entryRead}
+use Rattle.model.specs.Demands.{Demand3}
+use Rattle.model.proofs.Soundness.{ready, stopped-mark}
 use Rattle.model.proofs.Listed.{family}
 use Rattle.model.proofs.Asked.{get-answers}
 use Rattle.model.proofs.Restores.{by-attributes}

@@ -1,22 +1,21 @@
 -- A device that was just made is sound; initialising a sound device with a vCPU leaves one that is fresh and sound.
-use Prim.Native.Nat.{ℕ, zero, suc, _+_, _*_, _-_, _/_, _%_, _^_, _≤_, _<_}
-use mathlib.Core.Path.{_≡_, refl, sym, ap, _∙_}
-use mathlib.Core.Bool.{Bool, true, false, not, cond, _&&_, _||_}
-use mathlib.Core.List.{List, [], _∷_}
-use mathlib.Core.Logic.{_⊎_, inl, inr, ⊎-elim}
+use Prim.Native.Nat.{ℕ, _+_, _*_, _-_, _/_, _%_, _^_, _≤_, _<_}
+use mathlib.Core.Path.{_≡_, refl, _∙_}
+use mathlib.Core.Bool.{Bool, true, false, cond, _&&_, _||_}
+use mathlib.Core.List.{List}
 use native.Mathlib.Decide.{ℕ-discrete, decLt}
 use native.Mathlib.Omega.{arith}
-use borrow.Author.Tests.{eqb-true, eq-eqb, lt-ltb, le-ltb, ltb-true, leb-true, le-leb, not-true}
-use lib.Dec.{eqb, ltb, leb}
-use lib.ListN.{length, getD, set, replicate, length-set}
+use borrow.Author.Tests.{eqb-true, eq-eqb, lt-ltb, le-ltb, le-leb}
+use lib.Dec.{eqb, leb}
+use lib.ListN.{length, getD, set, length-set}
 use lib.Seq.{getD-set-same, getD-set-other}
 use Rattle.model.specs.Words.{bit, within, every, allBelow}
-use Rattle.model.specs.Layout.{stateLength, word, initialised, count, vcpus, vcpuWord, affinity}
-use Rattle.model.specs.Sound.{headerBits, blockBits, freshHeaderBits, freshBlockBits, entry, usedBits, freshBits, allowedBits, fits, wordOk, isCount, setup, unused, vcpuOk, sound, fresh}
+use Rattle.model.specs.Layout.{stateLength, word, initialised, count, vcpus}
+use Rattle.model.specs.Sound.{headerBits, blockBits, freshHeaderBits, freshBlockBits, entry, usedBits, freshBits, allowedBits, fits, wordOk, isCount, setup, vcpuOk, sound, fresh}
 use Rattle.model.specs.Calls.{made, initialisedNext}
 use Rattle.model.proofs.Tests.{both, and-true, or-right, every-at, every-all, below-at, below-all}
 use Rattle.model.proofs.Within.{fits-none, fits-within, bits-fit, none-within, wider}
-use Rattle.model.proofs.Soundness.{Sound, open-sound, close-sound, setup-vcpus, Vcpu, open-vcpu, close-vcpu, is-count}
+use Rattle.model.proofs.Soundness.{Sound, open-sound, close-sound, setup-vcpus, open-vcpu, close-vcpu, is-count}
 
 -- just made: all zero
 pub made-sound : sound made ≡ true
@@ -61,6 +60,10 @@ fresh-sound s size ok each e =
       each-vcpu = below-at (vcpuOk s) (vcpus s) each;
       each-word = λ k l. rw i (fresh-wider (count s) (vcpus s) k (word s k) (every-at (λ j w. fits w (freshBits (vcpus s) j)) s (a .1) k (omega arith)));
     })
+
+-- every word of 32 bits fits the mask of all ones
+pub all-ones : (w : ℕ) → w < 2 ^ 32 → fits w 0xffffffff ≡ true
+all-ones w m = bits-fit w 0xffffffff m (λ i q e. below-at (bit 0xffffffff) 32 (unfold allBelow bit in refl) i q)
 
 -- ---- initialising leaves a fresh device
 
@@ -117,13 +120,7 @@ module _ (s : List ℕ) (h : Sound s) (start : initialised s ≡ 0) (some : 1 �
     where
       go : Dec (k ≡ 0) → Dec (k ≡ 1) → fits (word t k) (freshBits (vcpus s) k) ≡ true
       go (yes e) d = rw (e, mark) (unfold fits within freshBits entry in refl)
-      go (no a) (yes e) = rw (e, counted) (any-word c (omega (arith, is-count c is-valid .most)))
-        where
-          any-word : (w : ℕ) → w < 2 ^ 32 → fits w (freshBits (vcpus s) 1) ≡ true
-          any-word w m = unfold freshBits entry in bits-fit w 0xffffffff m (λ i q e. ones i q)
-            where
-              ones : (i : ℕ) → i < 32 → bit 0xffffffff i ≡ true
-              ones i q = below-at (bit 0xffffffff) 32 (unfold allBelow bit in refl) i q
+      go (no a) (yes e) = rw (e, counted) (unfold freshBits entry in (all-ones c (omega (arith, is-count c is-valid .most))))
       go (no a) (no b) = rw (later k (omega arith)) (unfold wordOk allowedBits in (rw start at (h .each-word k l)))
 
   pub initialised-fresh : (fresh t ≡ true) × (sound t ≡ true)

@@ -20,6 +20,7 @@ pub mod Asked
 pub mod Restores
 pub mod Recorded
 pub mod ReadsBack
+pub mod Twin
 pub mod Demand
 pub mod Rows
 pub mod Worked

@@ -1,16 +1,15 @@
 -- The listed attributes by their families, and that these are exactly the members of `listed`.
-use Prim.Native.Nat.{ℕ, zero, suc, _+_, _*_, _-_, _/_, _%_, _^_, _≤_, _<_, min}
-use mathlib.Core.Path.{_≡_, refl, sym, ap, _∙_, subst}
+use Prim.Native.Nat.{ℕ, zero, suc, _+_, _*_, _≤_, _<_, min}
+use mathlib.Core.Path.{_≡_, refl, sym, subst}
 use mathlib.Core.List.{List, [], _∷_, _++_, List·Memᴰ, List·Memᴰ·head, List·Memᴰ·tail, List·Memᴰ·not-nil, List·Memᴰ·append-cases, Memᴰ·append-left, Memᴰ·append-right}
-use mathlib.Core.Logic.{_⊎_, inl, inr, ⊎-elim}
-use native.Mathlib.Nat.{add-zero}
+use mathlib.Core.Logic.{⊎-elim}
 use native.Mathlib.Decide.{ℕ-discrete}
 use native.Mathlib.Omega.{arith}
 use Rattle.model.specs.Words.{each}
-use Rattle.model.specs.Layout.{count, vcpus, affinity}
+use Rattle.model.specs.Layout.{count, vcpus}
 use Rattle.model.specs.Attributes.{Attribute, attr}
 use Rattle.model.specs.Record.{spiWords, spis, ofVcpu, ofSpiWord, ofRoute, ofVcpuBlock, listed}
-use Rattle.model.proofs.Soundness.{Count, Ready}
+use Rattle.model.proofs.Soundness.{Ready}
 use Rattle.model.proofs.Readings.{SpiWord}
 
 -- ---- the registers of flags that are listed: the set register stands for the pair

@@ -1,18 +1,17 @@
 -- A state whose words are words of two sound, stopped devices of the same set-up is such a device too.
-use Prim.Native.Nat.{ℕ, zero, suc, _+_, _*_, _≤_, _<_}
-use mathlib.Core.Path.{_≡_, refl, sym, ap, _∙_, subst}
-use mathlib.Core.Bool.{Bool, true, false, not}
+use Prim.Native.Nat.{ℕ, _+_, _≤_, _<_}
+use mathlib.Core.Path.{_≡_, refl, sym, _∙_, subst}
+use mathlib.Core.Bool.{true}
 use mathlib.Core.List.{List}
 use mathlib.Core.Logic.{_⊎_, inl, inr, ⊎-elim}
 use native.Mathlib.Decide.{ℕ-discrete}
 use native.Mathlib.Omega.{arith}
-use lib.Dec.{eqb}
 use lib.ListN.{length, set, length-set}
 use lib.Seq.{getD-set-same, getD-set-other}
-use Rattle.model.specs.Layout.{stateLength, word, initialised, count, vcpus, block, vcpuWord, affinity, running}
+use Rattle.model.specs.Layout.{stateLength, word, initialised, count, vcpus, block}
 use Rattle.model.specs.Sound.{fits, usedBits, vcpuOk}
 use Rattle.model.specs.Demands.{Stopped, Alike}
-use Rattle.model.proofs.Soundness.{Count, Ready, ready, ready-sound, stopped-mark, stopped-running, running-stopped, Vcpu, open-vcpu, close-vcpu}
+use Rattle.model.proofs.Soundness.{Ready, ready-sound, stopped-running, running-stopped, open-vcpu, close-vcpu}
 
 -- t has the length of a state, and each of its words is f's or s's
 pub record Between (f s t : List ℕ) : Type 0 where

@@ -1,18 +1,17 @@
 -- Each listed attribute is one word of the state, at a place of its own, and what it reads is one-to-one in that word.
-use Prim.Native.Nat.{ℕ, zero, suc, _+_, _*_, _-_, _/_, _%_, _^_, _≤_, _<_, min}
-use mathlib.Core.Path.{_≡_, refl, sym, ap, _∙_, subst}
-use mathlib.Core.Bool.{Bool, true, false, not, cond, _&&_, true≢false}
+use Prim.Native.Nat.{ℕ, zero, suc, _+_, _*_, _-_, _/_, _%_, _^_, _≤_, _<_}
+use mathlib.Core.Path.{_≡_, refl, sym, ap, _∙_}
+use mathlib.Core.Bool.{Bool, true, false, cond, _&&_}
 use mathlib.Core.List.{List, [], _∷_}
-use mathlib.Core.Logic.{_⊎_, inl, inr, ⊎-elim}
 use native.Mathlib.Nat.{mod-eq-of-lt}
-use native.Mathlib.Decide.{ℕ-discrete, decLt}
+use native.Mathlib.Decide.{ℕ-discrete}
 use native.Mathlib.Omega.{arith}
-use borrow.Author.Tests.{eqb-true, eq-eqb, ne-eqb, lt-ltb, le-ltb, not-true}
-use lib.Dec.{eqb, ltb, leb}
+use borrow.Author.Tests.{eq-eqb, ne-eqb, lt-ltb, le-ltb, not-true}
+use lib.Dec.{eqb, ltb}
 use lib.ListN.{getD}
-use Rattle.model.specs.Words.{bit, gather, lowest}
-use Rattle.model.specs.Layout.{stateLength, word, count, vcpus, block, bank, affinity, routeAt}
-use Rattle.model.specs.Registers.{decode, rows, read, attribute, flags, shownTo, statusAt, seenBy}
+use Rattle.model.specs.Words.{bit, lowest}
+use Rattle.model.specs.Layout.{word, vcpus, block, bank, affinity, routeAt}
+use Rattle.model.specs.Registers.{decode, rows, read, flags, shownTo, statusAt, seenBy}
 use Rattle.model.specs.Interface.{system, systemIn, plainRead}
 use Rattle.model.specs.Attributes.{Attribute, attr, low, high, groupOf, indexOf, mappedItem, mapped, systemItem, item, itemIn, itemOf, itemRead}
 use Rattle.model.specs.Record.{ofVcpu}
@@ -22,7 +21,6 @@ use Rattle.model.specs.declared.Flags.{Flags}
 use Rattle.model.specs.declared.Flags.the-variants.{Group, SetEnable, SetPending, SetActive, Lines}
 use Rattle.model.specs.declared.Register.{Register}
 use Rattle.model.specs.declared.Register.the-variants.{Fixed, Control, Typer, Iidr, Status, Bits, Priority, Config, Route, FrameTyper, FrameAffinity}
-use Rattle.model.specs.declared.Decoded.{Decoded}
 use Rattle.model.specs.declared.Decoded.the-variants as decoded
 use Rattle.model.specs.declared.Plain.{Plain}
 use Rattle.model.specs.declared.Plain.the-variants.{Pmr, Bpr, Apr, Ctlr, Sre, Igrpen}
@@ -30,8 +28,7 @@ use Rattle.model.specs.declared.SystemRegister.the-variants.{Both}
 use Rattle.model.specs.declared.Item.{Item}
 use Rattle.model.specs.declared.Item.the-variants.{Mapped, System, Nameless}
 use Rattle.model.proofs.Bits.{bit-gather, word-is}
-use Rattle.model.proofs.Tests.{not-both}
-use Rattle.model.proofs.Soundness.{Ready, Vcpu, open-vcpu}
+use Rattle.model.proofs.Soundness.{Ready, open-vcpu}
 use Rattle.model.proofs.Decode.{decode-group, decode-set-enable, decode-set-pending, decode-set-active, decode-priority, decode-config, decode-route, decode-control, decode-status, decode-frame-priority, decode-frame-status, decode-frame-group, decode-frame-set-enable, decode-frame-set-pending, decode-frame-set-active}
 use Rattle.model.proofs.Readings.{SpiWord, fits-word, bank-at, spread, reads-spi-flags, reads-private-flags, reads-private-lines, reads-spi-priority, reads-private-priority, reads-spi-config, reads-route}
 use Rattle.model.proofs.Listed.{Kept, groups, enables, latches, actives, offsetOf, Stored, pmr, ctlr, bpr0, bpr1, ap0r, ap1r, igrpen0, igrpen1, encodingOf, Listed, control, status, spi-flags, spi-lines, spi-priority, spi-config, spi-route, vcpu-status, vcpu-flags, vcpu-lines, vcpu-priority, vcpu-system}

@@ -1,17 +1,16 @@
 -- A put of a listed attribute: on a device of the same set-up whose word there is fresh, or the first device's already, it leaves the first device's word there.
-use Prim.Native.Nat.{ℕ, zero, suc, _+_, _*_, _-_, _/_, _%_, _^_, _≤_, _<_, min, max}
-use mathlib.Core.Path.{_≡_, refl, sym, ap, _∙_, subst}
+use Prim.Native.Nat.{ℕ, _+_, _*_, _-_, _/_, _%_, _^_, _≤_, _<_, min, max}
+use mathlib.Core.Path.{_≡_, refl, sym, ap, _∙_}
 use mathlib.Core.Bool.{Bool, true, false, not, cond, _&&_, _||_, true≢false}
-use mathlib.Core.List.{List, [], _∷_}
-use mathlib.Core.Logic.{_⊎_, inl, inr, ⊎-elim}
+use mathlib.Core.List.{List}
 use native.Mathlib.Nat.{mod-eq-of-lt}
-use native.Mathlib.Decide.{ℕ-discrete, decLt}
+use native.Mathlib.Decide.{decLt}
 use native.Mathlib.Omega.{arith}
-use borrow.Author.Tests.{eqb-true, eq-eqb, ne-eqb, lt-ltb, le-ltb, le-leb, leb-true, not-true}
+use borrow.Author.Tests.{eqb-true, lt-ltb, le-leb}
 use lib.Dec.{eqb, ltb, leb}
 use lib.ListN.{getD, set}
 use Rattle.model.specs.Words.{bit, gather, within, allBelow}
-use Rattle.model.specs.Layout.{stateLength, word, count, vcpus, block, bank, routeAt}
+use Rattle.model.specs.Layout.{word, count, vcpus, block, bank, routeAt}
 use Rattle.model.specs.Interrupts.{isPrivate, isSpi, flag, edge, priority}
 use Rattle.model.specs.Sound.{fits, usedBits, headerBits, blockBits, bankBits, lastBankBits}
 use Rattle.model.specs.Registers.{has, seenBy, flagAfter, writeFlags, writePriority, writeConfig, writeRoute, write, flags, ruleFor, writtenStatus, statusAt}
@@ -21,10 +20,10 @@ use Rattle.model.specs.Demands.{Alike}
 use Rattle.model.specs.declared.View.{View}
 use Rattle.model.specs.declared.View.the-variants.{Distributor, Frame}
 use Rattle.model.specs.declared.Rule.{Rule}
-use Rattle.model.specs.declared.Rule.the-variants.{Ignores, Replaces, Sets, Clears}
-use Rattle.model.proofs.Bits.{gather-same, gather-bits, word-is}
-use Rattle.model.proofs.Tests.{both, implied, and-true, and-implied, not-both, below-at}
-use Rattle.model.proofs.Within.{bit-none, fits-bit, fits-lt, fits-le, fits-none, wider}
+use Rattle.model.specs.declared.Rule.the-variants.{Replaces, Sets}
+use Rattle.model.proofs.Bits.{word-is}
+use Rattle.model.proofs.Tests.{both, implied, and-true, and-implied, below-at}
+use Rattle.model.proofs.Within.{bit-none, fits-bit, fits-lt, fits-le, wider}
 use Rattle.model.proofs.Soundness.{Ready, open-vcpu}
 use Rattle.model.proofs.Readings.{SpiWord, spread, flag-bit, priority-bit, bank-at, fits-word, flag-exists, priority-exists, edge-exists, private, block-word, line-ppi}
 use Rattle.model.proofs.Listed.{Listed, Kept, groups, enables, latches, actives, Stored, pmr, ctlr, bpr0, bpr1, ap0r, ap1r, igrpen0, igrpen1, control, status, spi-flags, spi-lines, spi-priority, spi-config, spi-route, vcpu-status, vcpu-flags, vcpu-lines, vcpu-priority, vcpu-system}

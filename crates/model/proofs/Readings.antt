@@ -1,28 +1,27 @@
 -- What each register reads by attribute, as the one word of the state that it shows: in a sound, initialised device.
 use Prim.Native.Nat.{ℕ, zero, suc, _+_, _*_, _-_, _/_, _%_, _^_, _≤_, _<_, min}
 use mathlib.Core.Path.{_≡_, refl, sym, ap, _∙_}
-use mathlib.Core.Bool.{Bool, true, false, not, cond, _&&_, _||_, true≢false}
+use mathlib.Core.Bool.{Bool, true, false, not, _&&_}
 use mathlib.Core.List.{List}
-use mathlib.Core.Logic.{_⊎_, inl, inr, ⊎-elim}
-use native.Mathlib.Nat.{add-comm, mod-eq-of-lt, div-eq-of-lt}
-use native.Mathlib.Decide.{ℕ-discrete, decLt}
+use native.Mathlib.Nat.{div-eq-of-lt}
+use native.Mathlib.Decide.{decLt}
 use native.Mathlib.Omega.{arith}
-use borrow.Author.Tests.{eqb-true, eq-eqb, ne-eqb, lt-ltb, le-ltb, ltb-true, le-leb, not-true}
-use lib.Dec.{eqb, ltb, leb}
+use borrow.Author.Tests.{eqb-true, lt-ltb, le-ltb, le-leb, not-true}
+use lib.Dec.{eqb, leb}
 use lib.ListN.{getD}
 use lib.Pow.{shr-shr, pow-mono}
 use Rattle.model.specs.Words.{bit, gather, allBelow}
 use Rattle.model.specs.Layout.{stateLength, word, count, vcpus, block, bank, routeAt}
-use Rattle.model.specs.Interrupts.{isPrivate, isSpi, flag, edge, priority, route}
+use Rattle.model.specs.Interrupts.{isPrivate, isSpi, flag, edge, priority}
 use Rattle.model.specs.Sound.{fits, usedBits, entry, blockBits, lastBankBits}
 use Rattle.model.specs.Registers.{has, seenBy, shows, readFlags, readPriority, readConfig, readRoute}
 use Rattle.model.specs.declared.View.{View}
 use Rattle.model.specs.declared.View.the-variants.{Distributor, Frame}
 use Rattle.model.specs.declared.Shown.the-variants.{Flag}
 use Rattle.model.proofs.Bits.{gather-same, bit-mod, word-is}
-use Rattle.model.proofs.Tests.{both, and-true, and-implied, not-both, below-at}
+use Rattle.model.proofs.Tests.{and-true, and-implied, not-both, below-at}
 use Rattle.model.proofs.Within.{bit-none, fits-lt, fits-bit, fits-none}
-use Rattle.model.proofs.Soundness.{Count, Ready}
+use Rattle.model.proofs.Soundness.{Ready}
 
 -- ---- bits of a word
 

@@ -6,7 +6,7 @@ use mathlib.Core.List.{List, List·Memᴰ}
 use mathlib.Core.Logic.{_⊎_, inl, inr, ⊎-elim, _↔_}
 use native.Mathlib.Decide.{ℕ-discrete, decLt}
 use native.Mathlib.Omega.{arith}
-use borrow.Author.Tests.{eqb-true, lt-ltb, le-ltb, ltb-true, le-leb}
+use borrow.Author.Tests.{eqb-true, lt-ltb, ltb-true, le-leb}
 use lib.Dec.{ltb, leb}
 use lib.ListN.{getD, set, length-set}
 use lib.Pow.{pow-mono}

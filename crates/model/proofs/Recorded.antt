@@ -1,34 +1,32 @@
 -- Demand 3 through save and restore: the record of a stopped device, restored into a fresh one of the same set-up, makes the two equal.
-use Prim.Native.Nat.{ℕ, zero, suc, _+_, _*_, _-_, _/_, _%_, _^_, _≤_, _<_}
-use mathlib.Core.Path.{_≡_, refl, sym, ap, ap₂, _∙_, subst}
-use mathlib.Core.Bool.{Bool, true, false, cond, _&&_}
+use Prim.Native.Nat.{ℕ, zero, suc, _+_, _^_, _≤_, _<_}
+use mathlib.Core.Path.{_≡_, refl, sym, ap, ap₂, _∙_}
+use mathlib.Core.Bool.{true}
 use mathlib.Core.List.{List, [], _∷_, _++_, map, List·Memᴰ, List·Memᴰ·head, List·Memᴰ·tail, List·Memᴰ·not-nil, Memᴰ·append-right}
-use mathlib.Core.Logic.{_⊎_, inl, inr, ⊎-elim}
 use native.Mathlib.Decide.{ℕ-discrete}
 use native.Mathlib.Omega.{arith}
 use borrow.Author.Tests.{eq-eqb, le-leb}
-use lib.Dec.{eqb, leb}
 use lib.IntN.{pos}
 use lib.ListN.{length, set, drop}
 use lib.Seq.{getD-set-same, getD-set-other, take-append-seam}
 use Rattle.model.specs.Words.{each}
-use Rattle.model.specs.Layout.{stateLength, word, count, vcpus, block, affinity}
-use Rattle.model.specs.Attributes.{Attribute, attr, itemOf, takes, itemRead, itemWrite}
-use Rattle.model.specs.Record.{encode, decodeNumber, spiWords, spis, ofVcpu, ofSpiWord, ofRoute, ofVcpuBlock, listed, Entry, header, attributeOf, version, entries, entryRead, entryBytes, recordOf, readable, entryPut, Loaded, done, taking, load, restored, faults, loadedState, saved}
+use Rattle.model.specs.Layout.{word, vcpus, block, affinity}
+use Rattle.model.specs.Attributes.{Attribute, itemOf, itemRead, itemWrite}
+use Rattle.model.specs.Record.{ofVcpuBlock, listed, Entry, header, attributeOf, entries, entryRead, entryBytes, recordOf, readable, entryPut, done, taking, load, restored, faults, loadedState, saved}
 use Rattle.model.specs.Refusals.{none}
-use Rattle.model.specs.Calls.{save, restore, Outcome, call, lentTo, acceptable, checks, refusal, value, next, filled, frontOf, handedBack, trace}
+use Rattle.model.specs.Calls.{save, restore, call, lentTo, acceptable, checks, refusal, value, next, filled, frontOf, handedBack, trace}
 use Rattle.model.specs.declared.Item.{Item}
-use Rattle.model.specs.Demands.{Stopped, Fresh, Alike, Same, ByRecord}
+use Rattle.model.specs.Demands.{Stopped, Fresh, Alike, ByRecord}
 use Rattle.model.proofs.Tests.{and-true}
 use Rattle.model.proofs.Numbers.{decode-encode}
-use Rattle.model.proofs.Soundness.{Count, Ready, ready, stopped-mark}
+use Rattle.model.proofs.Soundness.{Ready, ready, stopped-mark}
 use Rattle.model.proofs.Readings.{fits-word}
 use Rattle.model.proofs.Listed.{Listed, family, member}
 use Rattle.model.proofs.Places.{placeOf, shown, shapeOf, namedBy, names-item, reads-place, one-place}
-use Rattle.model.proofs.Cover.{Shows, shows, Carried, carried, place-inside}
+use Rattle.model.proofs.Cover.{shows, carried, place-inside}
 use Rattle.model.proofs.Mixed.{Between, between-start, between-put, mixed-alike, mixed-ready}
 use Rattle.model.proofs.Asked.{value-taken}
-use Rattle.model.proofs.Refused.{none-of, tests-next, is-granted, IsGranted}
+use Rattle.model.proofs.Refused.{none-of, tests-next, is-granted}
 use Rattle.model.proofs.Restores.{fresh-ready, fresh-stopped, item-put, all-agree}
 
 -- ---- devices of the same set-up have the same entries

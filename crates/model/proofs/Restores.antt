@@ -1,34 +1,30 @@
 -- Demand 3 by attributes: putting the listed attributes of a stopped device into a fresh one of the same set-up makes the two equal and for ever after alike.
-use Prim.Native.Nat.{ℕ, zero, suc, _+_, _*_, _-_, _/_, _%_, _^_, _≤_, _<_, min}
-use mathlib.Core.Path.{_≡_, refl, sym, ap, ap₂, _∙_, subst}
-use mathlib.Core.Bool.{Bool, true, false, cond, _&&_}
+use Prim.Native.Nat.{ℕ, _+_, _*_, _-_, _/_, _%_, _≤_, _<_}
+use mathlib.Core.Path.{_≡_, refl, sym, ap, _∙_, subst}
+use mathlib.Core.Bool.{true}
 use mathlib.Core.List.{List, [], _∷_, _++_, List·Memᴰ, List·Memᴰ·head, List·Memᴰ·tail, List·Memᴰ·not-nil}
 use mathlib.Core.Logic.{_⊎_, inl, inr, ⊎-elim}
 use native.Mathlib.Decide.{ℕ-discrete}
 use native.Mathlib.Omega.{arith}
-use borrow.Author.Tests.{eqb-true, eq-eqb, lt-ltb, le-ltb, le-leb}
-use lib.Dec.{eqb, ltb, leb}
-use lib.IntN.{ℤ, pos, negsuc}
+use borrow.Author.Tests.{eqb-true, lt-ltb, le-ltb}
+use lib.IntN.{pos, negsuc}
 use lib.ListN.{length, set, getD}
 use lib.Seq.{getD-set-same, getD-set-other, ext-getD}
 use Rattle.model.specs.Words.{every}
-use Rattle.model.specs.Layout.{stateLength, word, initialised, count, vcpus, block, running, isInitialised}
-use Rattle.model.specs.Sound.{sound, stopped, fresh, fits, freshBits, freshBlockBits, entry}
-use Rattle.model.specs.Attributes.{Attribute, attr, itemOf, item, known, takes, itemRead, itemWrite, groupOf}
-use Rattle.model.specs.Record.{listed}
-use Rattle.model.specs.Calls.{Call, getAttribute, setAttribute, Outcome, call, lentTo, acceptable, registerChecks, setChecks, checks, refusal, value, setState, next, after, trace}
-use Rattle.model.specs.Refusals.{Refusal, none, refuse}
-use Rattle.model.specs.Demands.{Stopped, Fresh, Alike, Put, puts, Allowed, put, get, refused, Restoring, one, Whole, Same, ByAttributes}
+use Rattle.model.specs.Layout.{stateLength, word, initialised, vcpus, block, running, isInitialised}
+use Rattle.model.specs.Sound.{fresh, fits, freshBits, freshBlockBits, entry}
+use Rattle.model.specs.Attributes.{Attribute, attr, item, itemRead, itemWrite, groupOf}
+use Rattle.model.specs.Calls.{Call, getAttribute, setAttribute, call, lentTo, acceptable, registerChecks, setChecks, checks, refusal, value, setState, next, after, trace}
+use Rattle.model.specs.Refusals.{none}
+use Rattle.model.specs.Demands.{Stopped, Fresh, Alike, Put, puts, Allowed, put, get, refused, Restoring, one, Whole, ByAttributes}
 use Rattle.model.specs.Demands as demands
 use Rattle.model.specs.declared.RegisterGroup.{RegisterGroup}
 use Rattle.model.specs.declared.AttributeGroup.the-variants.{Registers}
-use Rattle.model.specs.declared.Rule.the-variants.{Replaces, Sets}
 use Rattle.model.proofs.Tests.{both, every-at}
 use Rattle.model.proofs.Within.{fits-none}
 use Rattle.model.proofs.Soundness.{Ready, ready, stopped-mark, stopped-running, running-stopped}
-use Rattle.model.proofs.Refused.{none-of, tests-next, is-granted, is-refused, every-call, negative-errno, IsGranted, IsRefused}
-use Rattle.model.proofs.Readings.{SpiWord}
-use Rattle.model.proofs.Listed.{Listed, Kept, groups, enables, latches, actives, control, status, spi-flags, spi-lines, spi-priority, spi-config, spi-route, vcpu-status, vcpu-flags, vcpu-lines, vcpu-priority, vcpu-system, family, member}
+use Rattle.model.proofs.Refused.{none-of, tests-next, is-granted, is-refused, every-call, negative-errno}
+use Rattle.model.proofs.Listed.{Listed, groups, enables, latches, actives, control, status, spi-flags, spi-lines, spi-priority, spi-config, spi-route, vcpu-status, vcpu-flags, vcpu-lines, vcpu-priority, vcpu-system, family, member}
 use Rattle.model.proofs.Places.{placeOf, shown, shapeOf, namedBy, names-item, reads-place}
 use Rattle.model.proofs.Cover.{Owned, each-owned, place-inside}
 use Rattle.model.proofs.Puts.{Puts, replaces, sets-clear, sets-same, ruleOf, put-item}

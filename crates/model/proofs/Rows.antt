@@ -1,6 +1,6 @@
 -- Examples as rows of a table, what is asked and what must come, and the test that computes them through `call`.
-use Prim.Native.Nat.{ℕ, zero, suc, _+_}
-use mathlib.Core.Bool.{Bool, true, false, cond, _&&_}
+use Prim.Native.Nat.{ℕ, suc}
+use mathlib.Core.Bool.{Bool, true, false, _&&_}
 use mathlib.Core.List.{List, [], _∷_}
 use lib.Dec.{eqb}
 use lib.IntN.{ℤ, pos, negsuc}
@@ -13,7 +13,7 @@ use Rattle.model.specs.Lines.{latches, lineChanged}
 use Rattle.model.specs.Interface.{systemIn, system, plainRead, plainWrite, plainTakes, ownOrRouted, groupOn, candidate, rank, better, scan, best, clearedBits, groupPriority, runningLevel, runningPriority, ofGroup, gives, offered, levelOf, setLevel, taken, levelClear, acknowledged, highestPending, signal, ended, deactivated, named, targets, reaches, sgiSent, systemRead, systemReadNext, systemReadClear, systemWrite}
 use Rattle.model.specs.Attributes.{groupOf, indexOf, numberOk, affinityKnown, mappedItem, mapped, systemItem, item, known, registerTakes, takes, itemRead, itemWrite, itemIn, itemOf}
 use Rattle.model.specs.Record.{groupsOf, encode, more, readGroups, decodeNumber, ofSpiWord, ofRoute, ofVcpuBlock, listed, entries, entryRead, entryBytes, recordOf, saved, readable, entryPut, taking, load, restored, faults, loadedState}
-use Rattle.model.specs.Calls.{Call, Outcome, call, lentTo, acceptable, guestChecks, frameChecks, readChecks, writeChecks, hasLine, registerChecks, getChecks, setChecks, checks, refusal, systemValue, getValue, value, made, vcpuAdded, initialisedNext, systemReadState, systemWriteState, setState, next, lentBytes, filled, settle, frontOf, handedBack, after, trace}
+use Rattle.model.specs.Calls.{Call, call, lentTo, acceptable, guestChecks, frameChecks, readChecks, writeChecks, hasLine, registerChecks, getChecks, setChecks, checks, refusal, systemValue, getValue, value, made, vcpuAdded, initialisedNext, systemReadState, systemWriteState, setState, next, lentBytes, filled, settle, frontOf, handedBack, after, trace}
 
 -- the first call of a row is made on the state that the test is given; each other gets the state that the last one left
 pub data Row : Type 0 where

@@ -1,14 +1,14 @@
 -- How many values a record has: 5 + 23n + 15w + s, with n vCPUs, w SPI words and s SPIs; 75 at the least and 1,642 at the most.
-use Prim.Native.Nat.{ℕ, zero, suc, _+_, _*_, _-_, _/_, _%_, _≤_, min}
-use mathlib.Core.Path.{_≡_, refl, sym, _∙_}
-use mathlib.Core.List.{List, [], _∷_, _++_, map}
+use Prim.Native.Nat.{ℕ, zero, suc, _+_, _*_, _≤_}
+use mathlib.Core.Path.{_≡_, refl, sym}
+use mathlib.Core.List.{List, [], _∷_}
 use native.Mathlib.Nat.{mul-zero, mul-suc}
 use native.Mathlib.Omega.{arith}
 use lib.ListN.{length, length-append, length-map}
 use Rattle.model.specs.Words.{each}
 use Rattle.model.specs.Layout.{count, vcpus, affinity}
-use Rattle.model.specs.Record.{spiWords, spis, ofSpiWord, ofRoute, ofVcpuBlock, listed, Entry, header, attributeOf, entries}
-use Rattle.model.proofs.Soundness.{Count, Ready}
+use Rattle.model.specs.Record.{spiWords, spis, ofSpiWord, ofRoute, ofVcpuBlock, listed, header, entries}
+use Rattle.model.proofs.Soundness.{Ready}
 
 length-each {ℓ} : {A : Type ℓ} (f : ℕ → List A) (m : ℕ) → ((b : ℕ) → length (f b) ≡ m) → (b k : ℕ) → length (each f b k) ≡ m * k
 unfolding each

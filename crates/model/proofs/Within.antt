@@ -1,8 +1,7 @@
 -- Laws of `within` and `fits`: a word within a mask has a bit only where the mask has.
-use Prim.Native.Nat.{ℕ, zero, suc, _+_, _-_, _*_, _/_, _%_, _^_, _≤_, _<_}
+use Prim.Native.Nat.{ℕ, zero, suc, _/_, _%_, _^_, _≤_, _<_}
 use mathlib.Core.Path.{_≡_, refl, sym, ap, _∙_}
-use mathlib.Core.Bool.{Bool, true, false, _&&_, _||_}
-use mathlib.Core.Logic.{_⊎_, inl, inr, ⊎-elim}
+use mathlib.Core.Bool.{Bool, true, false, _||_}
 use native.Mathlib.Nat.{div-one, pow-suc}
 use native.Mathlib.Numerals.{one-add}
 use native.Mathlib.Omega.{arith}
@@ -11,7 +10,7 @@ use lib.Dec.{eqb, leb}
 use lib.Pow.{shr-shr}
 use Rattle.model.specs.Words.{bit, within}
 use Rattle.model.specs.Sound.{fits}
-use Rattle.model.proofs.Tests.{both, and-true, either, or-left, or-right}
+use Rattle.model.proofs.Tests.{both, and-true}
 
 -- ---- the lowest bit and the others
 

@@ -1,12 +1,12 @@
 -- The worked examples of document 01 as one table, computed through `call` from 1,760 words of 7, which are no device.
-use Prim.Native.Nat.{ℕ, _+_, _*_, _-_, _^_}
+use Prim.Native.Nat.{ℕ, _-_, _^_}
 use mathlib.Core.Path.{_≡_, refl}
-use mathlib.Core.Bool.{Bool, true, false}
+use mathlib.Core.Bool.{true, false}
 use mathlib.Core.List.{List, [], _∷_, _++_}
 use lib.IntN.{ℤ, pos, negsuc}
 use lib.ListN.{replicate, take}
 use Rattle.model.specs.Record.{groupsOf, encode}
-use Rattle.model.specs.Calls.{Call, make, addVcpu, setRunning, changeLine, querySignal, readDistributor, writeDistributor, readFrame, writeFrame, readSystem, writeSystem, getAttribute, setAttribute, save, restore}
+use Rattle.model.specs.Calls.{Call, make, addVcpu, setRunning, changeLine, querySignal, readDistributor, writeDistributor, readFrame, readSystem, writeSystem, getAttribute, setAttribute, save, restore}
 use Rattle.model.proofs.Rows.{Row, answer, hands, keeps, same, unmet}
 
 -- ---- short names for what the rows ask

@@ -1,5 +1,5 @@
 -- The calls: for each its refusals in their order, and what it answers and leaves where none of them holds.
-use Prim.Native.Nat.{ℕ, _+_, _<_}
+use Prim.Native.Nat.{ℕ, _+_}
 use mathlib.Core.Bool.{Bool, true, false, not, cond, _&&_, _||_}
 use mathlib.Core.List.{List, [], _∷_, _++_}
 use mathlib.Core.Path.{_≡_}
@@ -16,10 +16,8 @@ use Rattle.model.specs.Lines.{lineChanged}
 use Rattle.model.specs.Interface.{system, signal, plainRead, plainWrite, systemRead, systemReadNext, systemReadClear, systemWrite}
 use Rattle.model.specs.Attributes.{groupOf, numberOk, affinityKnown, item, known, takes, itemRead, itemWrite}
 use Rattle.model.specs.Record.{recordOf, saved, restored, faults, loadedState}
-use Rattle.model.specs.declared.Errno.{Errno}
 use Rattle.model.specs.declared.Errno.the-variants.{Eperm, Eio, Enxio, Enomem, Efault, Ebusy, Eexist, Enodev, Einval, Enospc}
 use Rattle.model.specs.declared.Answer.the-variants.{Value, Refused}
-use Rattle.model.specs.declared.View.{View}
 use Rattle.model.specs.declared.View.the-variants as view
 use Rattle.model.specs.declared.SystemRegister.{SystemRegister}
 use Rattle.model.specs.declared.SystemRegister.the-variants.{Both, Read, Write, Unnamed}

@@ -5,13 +5,13 @@ use Prim.Native.Nat.{ℕ, _≤_, _<_}
 use mathlib.Core.Path.{_≡_}
 use mathlib.Core.Bool.{true}
 use mathlib.Core.List.{List, [], _∷_, _++_, List·Memᴰ}
-use lib.IntN.{ℤ, pos, negsuc}
+use lib.IntN.{pos, negsuc}
 use lib.ListN.{length}
 use Rattle.model.specs.Layout.{count, vcpus, affinity}
 use Rattle.model.specs.Sound.{sound, stopped, fresh}
 use Rattle.model.specs.Attributes.{Attribute, attr, itemOf}
 use Rattle.model.specs.Record.{listed, attributeOf, entryRead, recordOf}
-use Rattle.model.specs.Calls.{Call, getAttribute, setAttribute, save, restore, Outcome, call, handedBack, after, trace}
+use Rattle.model.specs.Calls.{Call, getAttribute, setAttribute, save, restore, call, handedBack, after, trace}
 
 -- the first device: sound, initialised, no vCPU running
 pub record Stopped (s : List ℕ) : Type 0 where

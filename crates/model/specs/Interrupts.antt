@@ -1,8 +1,8 @@
 -- Which interrupts exist, and the fields of interrupt `id` as vCPU `v` sees it.
-use Prim.Native.Nat.{ℕ, zero, suc, _+_, _*_, _/_, _%_, _^_, min}
-use mathlib.Core.Bool.{Bool, true, false, not, _&&_, _||_}
+use Prim.Native.Nat.{ℕ, _+_, _*_, _/_, _%_, _^_, min}
+use mathlib.Core.Bool.{Bool, not, _&&_, _||_}
 use mathlib.Core.List.{List}
-use lib.Dec.{eqb, ltb, leb}
+use lib.Dec.{ltb, leb}
 use lib.ListN.{set}
 use Rattle.model.specs.Words.{bit, withBit}
 use Rattle.model.specs.Layout.{word, count, bank, routeAt}

@@ -3,10 +3,10 @@
 --     refuses c e    the call c answers -e
 --     saves n h      a save into n bytes of 0xa5 hands back the bytes h, and its answer is their number
 -- A call leaves the bytes lent to it as they are, but for those that save hands back.
-use Prim.Native.Nat.{ℕ, zero, suc, _-_}
+use Prim.Native.Nat.{ℕ, suc, _-_}
 use mathlib.Core.Bool.{Bool, true, false, cond, _&&_}
 use mathlib.Core.List.{List, [], _∷_, _++_}
-use lib.IntN.{ℤ, pos, negℤ}
+use lib.IntN.{pos, negℤ}
 use lib.ListN.{length, replicate, set}
 use Rattle.model.specs.Calls.{Call, save, Outcome, call, handedBack, lentTo, lentBytes}
 use Rattle.model.proofs.Rows.{sameNumber, sameWords, meets}

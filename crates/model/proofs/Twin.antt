@@ -1,0 +1,171 @@
+-- What demand 3 asks can be met: for every stopped device there is a fresh one of the same count and affinities, and a list that puts every listed attribute.
+use Prim.Native.Nat.{ℕ, zero, suc, _+_, _-_, _/_, _%_, _<_}
+use mathlib.Core.Path.{_≡_, refl, ap, _∙_}
+use mathlib.Core.Bool.{true, cond}
+use mathlib.Core.List.{List, [], _∷_, map, List·Memᴰ, List·Memᴰ·head, List·Memᴰ·tail, List·Memᴰ·not-nil}
+use native.Mathlib.Nat.{add-zero, zero-add}
+use native.Mathlib.Decide.{ℕ-discrete, decLt}
+use native.Mathlib.Omega.{arith}
+use borrow.Author.Tests.{eq-eqb, ne-eqb, lt-ltb, le-ltb}
+use lib.Dec.{eqb, ltb}
+use lib.ListN.{length, getD}
+use Rattle.model.specs.Words.{within}
+use Rattle.model.specs.Layout.{stateLength, word, vcpus, block, affinity}
+use Rattle.model.specs.Sound.{freshHeaderBits, freshBlockBits, entry, freshBits, fits, vcpuOk, fresh}
+use Rattle.model.specs.Attributes.{Attribute, itemOf, itemRead}
+use Rattle.model.specs.Record.{listed}
+use Rattle.model.specs.Calls.{Call, setAttribute, call}
+use Rattle.model.specs.Demands.{Stopped, Fresh, Alike, Put, puts, put, Restoring, none, one, Whole}
+use Rattle.model.proofs.Tests.{and-true, every-all, below-all}
+use Rattle.model.proofs.Within.{fits-within, none-within}
+use Rattle.model.proofs.Soundness.{open-sound, Ready, ready, stopped-mark, open-vcpu, close-vcpu}
+use Rattle.model.proofs.Fresh.{fresh-sound, all-ones}
+use Rattle.model.proofs.Readings.{fits-word, block-word}
+use Rattle.model.proofs.Listed.{family}
+use Rattle.model.proofs.Asked.{get-answers}
+
+-- ---- a list of n numbers by their places
+
+tabulate : (ℕ → ℕ) → ℕ → ℕ → List ℕ
+tabulate f i zero = []
+tabulate f i (suc n) = f i ∷ tabulate f (suc i) n
+
+tabulate-length : (f : ℕ → ℕ) (i n : ℕ) → length (tabulate f i n) ≡ n
+unfolding tabulate
+tabulate-length f i zero = refl
+tabulate-length f i (suc n) = ap suc (tabulate-length f (suc i) n)
+
+tabulate-at : (f : ℕ → ℕ) (i n k : ℕ) → k < n → getD (tabulate f i n) k 0 ≡ f (i + k)
+unfolding tabulate
+tabulate-at f i zero k l = absurd (omega arith)
+tabulate-at f i (suc n) zero l = rw add-zero
+tabulate-at f i (suc n) (suc k) l = let e : i + suc k ≡ suc i + k = omega arith in rw e (tabulate-at f (suc i) n k (omega arith))
+
+-- ---- the words of the fresh device
+
+blockWord : List ℕ → ℕ → ℕ → ℕ
+blockWord s v j = cond (eqb j 13) 0xffff (cond (eqb j 16) (affinity s v) (cond (eqb j 21) 2 (cond (eqb j 22) 3 0)))
+
+freshWord : List ℕ → ℕ → ℕ
+freshWord s k = cond (ltb k 3) (word s k) (cond (ltb k 16) 0 (cond (ltb k 272) (cond (ltb ((k - 16) / 32) (vcpus s)) (blockWord s ((k - 16) / 32) ((k - 16) % 32)) 0) 0))
+
+module _ (s : List ℕ) (h : Ready s) where
+  twin : List ℕ
+  twin = tabulate (freshWord s) 0 stateLength
+
+  long : length twin ≡ stateLength
+  unfolding twin
+  long = tabulate-length (freshWord s) 0 stateLength
+
+  at : (k : ℕ) → k < stateLength → word twin k ≡ freshWord s k
+  unfolding twin
+  at k l = tabulate-at (freshWord s) 0 stateLength k l ∙ ap (freshWord s) (zero-add k)
+
+  in-header : (k : ℕ) → k < 3 → word twin k ≡ word s k
+  unfolding freshWord
+  in-header k l = at k (omega arith) ∙ rw (lt-ltb k 3 l)
+
+  in-block : (v j : ℕ) → v < vcpus s → j < 32 → word twin (block v + j) ≡ blockWord s v j
+  unfolding freshWord
+  in-block v j l m =
+      let d : (block v + j - 16) / 32 ≡ v = omega arith in
+      let r : (block v + j - 16) % 32 ≡ j = omega arith in
+      at (block v + j) (omega (arith, h .few))
+      ∙ rw (le-ltb (block v + j) 3 (omega arith), le-ltb (block v + j) 16 (omega arith), lt-ltb (block v + j) 272 (omega (arith, h .few)), d, lt-ltb v (vcpus s) l, r)
+
+  twin-alike : Alike s twin
+  unfolding blockWord
+  twin-alike = record {
+    same-count = in-header 1 (omega arith);
+    same-number = in-header 2 (omega arith);
+    same-affinities = λ v l. in-block v 16 l (omega arith);
+  }
+
+  twin-vcpu : (v : ℕ) → v < vcpus s → vcpuOk twin v ≡ true
+  unfolding blockWord
+  twin-vcpu v l = close-vcpu twin v (record {
+    edges = in-block v 13 l (omega arith);
+    bpr0 = rw (in-block v 21 l (omega arith)) (omega arith);
+    bpr1 = rw (in-block v 22 l (omega arith)) (omega arith);
+    distinct = λ u m. rw (in-block u 16 (omega arith) (omega arith), in-block v 16 l (omega arith)) (open-vcpu s v (h .each-vcpu v l) .distinct u m);
+  })
+
+  zero-fits : (m : ℕ) → fits 0 m ≡ true
+  zero-fits m = fits-within 0 m ∙ none-within 32 m
+
+  -- each word of a block is within the fresh masks
+  block-fits : (v j : ℕ) → v < vcpus s → fits (blockWord s v j) (getD freshBlockBits j 0) ≡ true
+  unfolding blockWord
+  block-fits v j l = go (ℕ-discrete j 13) (ℕ-discrete j 16) (ℕ-discrete j 21) (ℕ-discrete j 22)
+    where
+      go : Dec (j ≡ 13) → Dec (j ≡ 16) → Dec (j ≡ 21) → Dec (j ≡ 22) → fits (blockWord s v j) (getD freshBlockBits j 0) ≡ true
+      go (yes e) d16 d21 d22 = rw e (unfold fits within in refl)
+      go (no a) (yes e) d21 d22 = rw e (block-word s h v 16 l (omega arith))
+      go (no a) (no b) (yes e) d22 = rw e (unfold fits within in refl)
+      go (no a) (no b) (no c) (yes e) = rw e (unfold fits within in refl)
+      go (no a) (no b) (no c) (no d) = rw (ne-eqb j 13 a, ne-eqb j 16 b, ne-eqb j 21 c, ne-eqb j 22 d) (zero-fits (getD freshBlockBits j 0))
+
+  twin-fits : (k : ℕ) → k < stateLength → fits (freshWord s k) (freshBits (vcpus s) k) ≡ true
+  unfolding freshWord freshBits entry
+  twin-fits k l = go (decLt k 3) (decLt k 16) (decLt k 272) (decLt ((k - 16) / 32) (vcpus s))
+    where
+      header : (j : ℕ) → j < 3 → getD freshHeaderBits j 0 ≡ 0xffffffff
+      header zero m = refl
+      header (suc zero) m = refl
+      header (suc (suc zero)) m = refl
+      header (suc (suc (suc j))) m = absurd (omega arith)
+
+      go : Dec (k < 3) → Dec (k < 16) → Dec (k < 272) → Dec ((k - 16) / 32 < vcpus s) → fits (freshWord s k) (freshBits (vcpus s) k) ≡ true
+      go (yes a) d2 d3 d4 = rw (lt-ltb k 3 a, lt-ltb k 16 (omega arith), header k a) (all-ones (word s k) (fits-word s h k l))
+      go (no a) (yes b) d3 d4 = rw (le-ltb k 3 (omega arith), lt-ltb k 16 b) (zero-fits _)
+      go (no a) (no b) (yes c) (yes d) =
+          rw (le-ltb k 3 (omega arith), le-ltb k 16 (omega arith), lt-ltb k 272 c, lt-ltb ((k - 16) / 32) (vcpus s) d) (block-fits ((k - 16) / 32) ((k - 16) % 32) d)
+      go (no a) (no b) (yes c) (no d) = rw (le-ltb k 3 (omega arith), le-ltb k 16 (omega arith), lt-ltb k 272 c, le-ltb ((k - 16) / 32) (vcpus s) (omega arith)) (zero-fits 0)
+      go (no a) (no b) (no c) d4 = rw (le-ltb k 3 (omega arith), le-ltb k 16 (omega arith), le-ltb k 272 (omega arith)) (zero-fits 0)
+
+  is-fresh : fresh twin ≡ true
+  unfolding fresh
+  is-fresh =
+      and-true (eq-eqb (word twin 0) 1 (in-header 0 (omega arith) ∙ h .mark))
+      (rw (in-header 2 (omega arith)) (every-all (λ k w. fits w (freshBits (vcpus s) k)) twin (λ k l.
+      let m : k < stateLength = omega (arith, long) in rw (at k m) (twin-fits k m))))
+
+pub fresh-twin : (s : List ℕ) → Stopped s → (t : List ℕ) × Fresh t × Alike s t
+fresh-twin s hs =
+    let i = stopped-mark s (hs .is-stopped) in
+    let h = ready s (hs .is-sound) i in
+    let t = twin s h in (
+      t,
+      record {
+        is-sound = fresh-sound t (long s h)
+            (rw (in-header s h 0 (omega arith), in-header s h 1 (omega arith), in-header s h 2 (omega arith)) (open-sound s (hs .is-sound) .set-up))
+            (rw (in-header s h 2 (omega arith)) (below-all (vcpuOk t) (vcpus s) (twin-vcpu s h)))
+            (is-fresh s h);
+        is-fresh = is-fresh s h;
+      },
+      twin-alike s h,
+    )
+
+-- ---- and there is a list that puts every listed attribute
+
+abbrev putOf : List ℕ → Attribute → Call
+putOf s a = setAttribute (a .group) (a .number) (itemRead s (itemOf a s))
+
+module _ (from : List ℕ) (hf : Stopped from) where
+  is-put : (a : Attribute) → List·Memᴰ a (listed from) → Put from a (putOf from a)
+  is-put a m =
+      puts (a .number) (itemRead from (itemOf a from)) refl (get-answers from hf (family from (ready from (hf .is-sound) (stopped-mark from (hf .is-stopped))) m))
+
+  are-restoring : (l : List Attribute) (s : List ℕ) → ((a : Attribute) → List·Memᴰ a l → List·Memᴰ a (listed from)) → Restoring from s (map (putOf from) l)
+  are-restoring [] s h = none
+  are-restoring (a ∷ l) s h =
+      one (put (h a (List·Memᴰ·head refl)) (is-put a (h a (List·Memᴰ·head refl)))) (are-restoring l (call (putOf from a) s .state) (λ b m. h b (List·Memᴰ·tail m)))
+
+  among : (l : List Attribute) (a : Attribute) → List·Memᴰ a l → List·Memᴰ (putOf from a) (map (putOf from) l)
+  among [] a m = absurd (List·Memᴰ·not-nil m)
+  among (b ∷ l) a (List·Memᴰ·head e) = List·Memᴰ·head (ap (putOf from) e)
+  among (b ∷ l) a (List·Memᴰ·tail m) = List·Memᴰ·tail (among l a m)
+
+  pub whole-list : (to : List ℕ) → (cs : List Call) × Restoring from to cs × Whole from cs
+  whole-list to =
+      (map (putOf from) (listed from), are-restoring (listed from) to (λ a m. m), record { put-each = λ a m. (putOf from a, is-put a m, among (listed from) a m) })
