@@ -23,9 +23,6 @@ pub either : (a b : Bool) → (a || b) ≡ true → (a ≡ true) ⊎ (b ≡ true
 either true b e = inl refl
 either false b e = inr e
 
-pub or-left : {a : Bool} (b : Bool) → a ≡ true → (a || b) ≡ true
-or-left b p = cc
-
 pub or-right : (a : Bool) {b : Bool} → b ≡ true → (a || b) ≡ true
 or-right true e = refl
 or-right false e = e
