@@ -9,7 +9,7 @@ use borrow.Author.Tests.{eqb-true, eq-eqb, leb-true, le-leb}
 use lib.Dec.{eqb, leb}
 use lib.ListN.{length}
 use Rattle.model.specs.Words.{every, allBelow}
-use Rattle.model.specs.Layout.{stateLength, mostVcpus, word, initialised, count, vcpus, vcpuWord, affinity, running}
+use Rattle.model.specs.Layout.{stateLength, mostVcpus, word, initialised, count, vcpus, bprAt, sgiEdgesAt, affinity, running}
 use Rattle.model.specs.Sound.{fits, usedBits, allowedBits, wordOk, isCount, setup, unused, vcpuOk, sound, stopped}
 use Rattle.model.proofs.Tests.{both, and-true, either, or-right, every-at, every-all, below-at, below-all}
 
@@ -122,17 +122,17 @@ stopped-running s e v l =
 -- ---- what a vCPU has
 
 pub record Vcpu (s : List ℕ) (v : ℕ) : Type 0 where
-  pub edges : vcpuWord s v 13 ≡ 0xffff
-  pub bpr0 : 2 ≤ vcpuWord s v 21
-  pub bpr1 : 3 ≤ vcpuWord s v 22
+  pub edges : word s (sgiEdgesAt v) ≡ 0xffff
+  pub bpr0 : 2 ≤ word s (bprAt v 0)
+  pub bpr1 : 3 ≤ word s (bprAt v 1)
   pub distinct : (u : ℕ) → u < v → not (eqb (affinity s u) (affinity s v)) ≡ true
 
 pub open-vcpu : (s : List ℕ) (v : ℕ) → vcpuOk s v ≡ true → Vcpu s v
 unfolding vcpuOk unused
 open-vcpu s v e =
-    let a = both (eqb (vcpuWord s v 13) 0xffff && leb 2 (vcpuWord s v 21) && leb 3 (vcpuWord s v 22)) (unused s (affinity s v) v) e in
-    let b = both (eqb (vcpuWord s v 13) 0xffff && leb 2 (vcpuWord s v 21)) (leb 3 (vcpuWord s v 22)) (a .0) in
-    let c = both (eqb (vcpuWord s v 13) 0xffff) (leb 2 (vcpuWord s v 21)) (b .0) in
+    let a = both (eqb (word s (sgiEdgesAt v)) 0xffff && leb 2 (word s (bprAt v 0)) && leb 3 (word s (bprAt v 1))) (unused s (affinity s v) v) e in
+    let b = both (eqb (word s (sgiEdgesAt v)) 0xffff && leb 2 (word s (bprAt v 0))) (leb 3 (word s (bprAt v 1))) (a .0) in
+    let c = both (eqb (word s (sgiEdgesAt v)) 0xffff) (leb 2 (word s (bprAt v 0))) (b .0) in
     record {
       edges = eqb-true _ _ (c .0);
       bpr0 = leb-true 2 _ (c .1);

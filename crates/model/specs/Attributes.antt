@@ -44,6 +44,10 @@ low a = a % 2 ^ 32
 unfoldable pub indexOf : List ℕ → ℕ → ℕ
 indexOf s a = lowest (λ v. eqb (affinity s v) a) (vcpus s) 0
 
+-- a vCPU has the affinity a
+abbrev pub isUsed : List ℕ → ℕ → Bool
+isUsed s a = ltb (indexOf s a) (vcpus s)
+
 -- ---- what is asked of the number
 
 -- group 7: bits 31-10 are 0 and bits 9-0 a multiple of 32
@@ -56,17 +60,17 @@ numberOk Lines a = eqb (low a / 1024) 0 && eqb (low a % 1024 % 32) 0
 -- groups 5, 6, and 7 below ID 32: bits 63-32 are a vCPU's affinity
 unfoldable pub affinityKnown : RegisterGroup → ℕ → List ℕ → Bool
 affinityKnown Distributor a s = true
-affinityKnown Redistributor a s = ltb (indexOf s (high a)) (vcpus s)
-affinityKnown Interface a s = ltb (indexOf s (high a)) (vcpus s)
-affinityKnown Lines a s = cond (ltb (low a) 32) (ltb (indexOf s (high a)) (vcpus s)) true
+affinityKnown Redistributor a s = isUsed s (high a)
+affinityKnown Interface a s = isUsed s (high a)
+affinityKnown Lines a s = cond (ltb (low a) 32) (isUsed s (high a)) true
 
 -- ---- what it names
 
--- only the listed aligned words exist
 unfoldable pub mappedItem : View → Decoded → Item
 mappedItem x (Listed r k) = Mapped x r k
 mappedItem x Unlisted = Nameless
 
+-- only the listed aligned words exist
 unfoldable pub mapped : View → ℕ → Item
 mapped x off = cond (eqb (off % 4) 0) (mappedItem x (decode (rows x) off)) Nameless
 

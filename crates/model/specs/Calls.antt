@@ -7,7 +7,7 @@ use lib.Dec.{eqb, ltb, leb}
 use lib.IntN.{ℤ, pos, negsuc}
 use lib.ListN.{length, set, take, replicate}
 use Rattle.model.specs.Words.{val}
-use Rattle.model.specs.Layout.{stateLength, mostVcpus, isInitialised, count, vcpus, block, runningAt, running}
+use Rattle.model.specs.Layout.{stateLength, mostVcpus, initialisedAt, countAt, vcpusAt, isInitialised, count, vcpus, affinityAt, runningAt, running, bprAt, leastBpr, sgiEdgesAt}
 use Rattle.model.specs.Interrupts.{isPpi, isSpi}
 use Rattle.model.specs.Sound.{sound, stopped, fresh, isCount, isAffinity, unused}
 use Rattle.model.specs.Refusals.{Check, Refusal, none, refuse, firstFailing, number}
@@ -107,7 +107,7 @@ writeChecks (Read r) = (false, Enxio) ∷ []
 writeChecks (Write w) = []
 writeChecks Unnamed = (false, Enxio) ∷ []
 
--- an SPI line ignores the index
+-- a PPI of a vCPU that is there, or an SPI, whose line ignores the index
 unfoldable pub hasLine : List ℕ → ℕ → ℕ → Bool
 hasLine s v id = cond (isPpi id) (isVcpu s v) (isSpi s id)
 
@@ -187,11 +187,11 @@ made = replicate stateLength 0
 
 -- SGI edge flags, BPR0 2 and BPR1 3 from a vCPU's adding on
 unfoldable pub vcpuAdded : List ℕ → ℕ → ℕ → List ℕ
-vcpuAdded s n a = set (set (set (set (set s (block n + 13) 0xffff) (block n + 16) a) (block n + 21) 2) (block n + 22) 3) 2 (n + 1)
+vcpuAdded s n a = set (set (set (set (set s (sgiEdgesAt n) 0xffff) (affinityAt n) a) (bprAt n 0) (leastBpr 0)) (bprAt n 1) (leastBpr 1)) vcpusAt (n + 1)
 
 -- no change if done already; an unset count becomes 256
 unfoldable pub initialisedNext : List ℕ → List ℕ
-initialisedNext s = cond (isInitialised s) s (set (set s 1 (cond (eqb (count s) 0) 256 (count s))) 0 1)
+initialisedNext s = cond (isInitialised s) s (set (set s countAt (cond (eqb (count s) 0) 256 (count s))) initialisedAt 1)
 
 unfoldable pub systemReadState : SystemRegister → ℕ → List ℕ → List ℕ
 systemReadState (Both p) v s = s
@@ -207,7 +207,7 @@ systemWriteState Unnamed v x s = s
 
 unfoldable pub setState : AttributeGroup → ℕ → ℕ → List ℕ → List ℕ
 setState (Registers q) a x s = itemWrite s (item q a s) x
-setState Count a x s = set s 1 x
+setState Count a x s = set s countAt x
 setState Initialise a x s = initialisedNext s
 setState Unknown a x s = s
 

@@ -5,7 +5,7 @@ use mathlib.Core.List.{List, [], _∷_}
 use lib.Dec.{eqb, ltb}
 use lib.ListN.{set}
 use Rattle.model.specs.Words.{val, bit, withBit, lowest}
-use Rattle.model.specs.Layout.{word, count, vcpus, enablesAt, affinity, pmrAt, ctlrAt, bprAt, aprAt, igrpenAt}
+use Rattle.model.specs.Layout.{word, count, vcpus, enablesAt, affinity, pmrAt, ctlrAt, bprAt, leastBpr, aprAt, igrpenAt, latchField, activeField}
 use Rattle.model.specs.Interrupts.{isPrivate, idsBelow, isSpi, exists, group, enabled, active, priority, route, pending, setFlag}
 use Rattle.model.specs.declared.Plain.{Plain}
 use Rattle.model.specs.declared.Plain.the-variants.{Pmr, Bpr, Apr, Ctlr, Sre, Igrpen}
@@ -64,10 +64,6 @@ plainRead s v (Apr g) = word s (aprAt v g)
 plainRead s v Ctlr = 0x400 + word s (ctlrAt v)
 plainRead s v Sre = 7
 plainRead s v (Igrpen g) = word s (igrpenAt v g)
-
--- BPR0's least value is 2, BPR1's 3
-abbrev pub leastBpr : ℕ → ℕ
-leastBpr g = 2 + g
 
 -- PMR keeps bits 7-3, BPRs bits 2-0 raised to their least, APs bits 31-0, IGRPEN bit 0; of CTLR bit 1 is written; SRE ignores writes
 unfoldable pub plainWrite : List ℕ → ℕ → Plain → ℕ → List ℕ
@@ -170,7 +166,7 @@ setLevel t v g level s = set s (aprAt v g) (withBit (word s (aprAt v g)) level t
 
 -- acknowledging b: it is made active, its latch cleared, its group priority's bit set in APgR
 unfoldable pub taken : List ℕ → ℕ → ℕ → ℕ → List ℕ
-taken s v g b = setLevel true v g (levelOf s v g b) (setFlag 2 false v (rankId b) (setFlag 3 true v (rankId b) s))
+taken s v g b = setLevel true v g (levelOf s v g b) (setFlag latchField false v (rankId b) (setFlag activeField true v (rankId b) s))
 
 -- the active-priority bit of what is acknowledged is clear
 unfoldable pub levelClear : List ℕ → ℕ → ℕ → ℕ → Bool
@@ -197,11 +193,11 @@ unfoldable pub ended : List ℕ → ℕ → ℕ → ℕ → List ℕ
 ended s v g id =
     let level = runningLevel s v in
     cond (exists s id && bit (word s (aprAt v g)) level)
-    (cond (eoiMode s v) (setLevel false v g level s) (setFlag 3 false v id (setLevel false v g level s))) s
+    (cond (eoiMode s v) (setLevel false v g level s) (setFlag activeField false v id (setLevel false v g level s))) s
 
 -- in EOImode 1 makes an existing one inactive, else nothing
 unfoldable pub deactivated : List ℕ → ℕ → ℕ → List ℕ
-deactivated s v id = cond (eoiMode s v && exists s id) (setFlag 3 false v id s) s
+deactivated s v id = cond (eoiMode s v && exists s id) (setFlag activeField false v id s) s
 
 -- ---- SGIs
 
@@ -228,7 +224,7 @@ reaches only0 s v x t = targets s v x t && not (only0 && group s t (sgiId x))
 -- the SGI of the targets among the first n vCPUs is latched
 unfoldable pub sgiSent : ℕ → Bool → ℕ → ℕ → List ℕ → List ℕ
 sgiSent zero only0 v x s = s
-sgiSent (suc n) only0 v x s = let t = sgiSent n only0 v x s in cond (reaches only0 s v x n) (setFlag 2 true n (sgiId x) t) t
+sgiSent (suc n) only0 v x s = let t = sgiSent n only0 v x s in cond (reaches only0 s v x n) (setFlag latchField true n (sgiId x) t) t
 
 -- ---- what a guest reads and writes
 

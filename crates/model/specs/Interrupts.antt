@@ -5,7 +5,7 @@ use mathlib.Core.List.{List}
 use lib.Dec.{ltb, leb}
 use lib.ListN.{set}
 use Rattle.model.specs.Words.{bit, withBit}
-use Rattle.model.specs.Layout.{word, count, bank, routeAt}
+use Rattle.model.specs.Layout.{word, count, bank, groupField, enabledField, latchField, activeField, lineField, priorityField, edgeField, routeAt}
 
 -- ---- which exist
 
@@ -32,25 +32,25 @@ abbrev pub flag : ℕ → List ℕ → ℕ → ℕ → Bool
 flag k s v id = bit (word s (bank v (id / 32) + k)) (id % 32)
 
 abbrev pub group : List ℕ → ℕ → ℕ → Bool
-group = flag 0
+group = flag groupField
 
 abbrev pub enabled : List ℕ → ℕ → ℕ → Bool
-enabled = flag 1
+enabled = flag enabledField
 
 abbrev pub latch : List ℕ → ℕ → ℕ → Bool
-latch = flag 2
+latch = flag latchField
 
 abbrev pub active : List ℕ → ℕ → ℕ → Bool
-active = flag 3
+active = flag activeField
 
 abbrev pub line : List ℕ → ℕ → ℕ → Bool
-line = flag 4
+line = flag lineField
 
 abbrev pub edge : List ℕ → ℕ → ℕ → Bool
-edge s v id = bit (word s (bank v (id / 32) + 13 + id % 32 / 16)) (id % 16)
+edge s v id = bit (word s (bank v (id / 32) + edgeField + id % 32 / 16)) (id % 16)
 
 abbrev pub priority : List ℕ → ℕ → ℕ → ℕ
-priority s v id = word s (bank v (id / 32) + 5 + id % 32 / 4) / 2 ^ (8 * (id % 4)) % 256
+priority s v id = word s (bank v (id / 32) + priorityField + id % 32 / 4) / 2 ^ (8 * (id % 4)) % 256
 
 abbrev pub route : List ℕ → ℕ → ℕ
 route s id = word s (routeAt id)

@@ -28,17 +28,26 @@ abbrev pub word : List ℕ → ℕ → ℕ
 word s at = getD s at 0
 
 -- ---- the device
+abbrev pub initialisedAt : ℕ
+initialisedAt = 0
+
+abbrev pub countAt : ℕ
+countAt = 1
+
+abbrev pub vcpusAt : ℕ
+vcpusAt = 2
+
 abbrev pub initialised : List ℕ → ℕ
-initialised s = word s 0
+initialised s = word s initialisedAt
 
 abbrev pub isInitialised : List ℕ → Bool
 isInitialised s = eqb (initialised s) 1
 
 abbrev pub count : List ℕ → ℕ
-count s = word s 1
+count s = word s countAt
 
 abbrev pub vcpus : List ℕ → ℕ
-vcpus s = word s 2
+vcpus s = word s vcpusAt
 
 -- the places of the distributor's group enables and of its STATUSR
 abbrev pub enablesAt : ℕ
@@ -51,11 +60,11 @@ distributorStatusAt = 4
 abbrev pub block : ℕ → ℕ
 block v = 16 + 32 * v
 
-abbrev pub vcpuWord : List ℕ → ℕ → ℕ → ℕ
-vcpuWord s v j = word s (block v + j)
+abbrev pub affinityAt : ℕ → ℕ
+affinityAt v = block v + 16
 
 abbrev pub affinity : List ℕ → ℕ → ℕ
-affinity s v = vcpuWord s v 16
+affinity s v = word s (affinityAt v)
 
 abbrev pub runningAt : ℕ → ℕ
 runningAt v = block v + 17
@@ -76,6 +85,10 @@ ctlrAt v = block v + 20
 abbrev pub bprAt : ℕ → ℕ → ℕ
 bprAt v g = block v + (21 + g)
 
+-- BPR0's least value is 2, BPR1's 3; they are the fresh values too
+abbrev pub leastBpr : ℕ → ℕ
+leastBpr g = 2 + g
+
 abbrev pub aprAt : ℕ → ℕ → ℕ
 aprAt v g = block v + (23 + g)
 
@@ -86,6 +99,32 @@ igrpenAt v g = block v + (25 + g)
 abbrev pub bank : ℕ → ℕ → ℕ
 bank v zero = block v
 bank v (suc w) = 256 + 16 * suc w
+
+-- the words of a bank, from its first on
+abbrev pub groupField : ℕ
+groupField = 0
+
+abbrev pub enabledField : ℕ
+enabledField = 1
+
+abbrev pub latchField : ℕ
+latchField = 2
+
+abbrev pub activeField : ℕ
+activeField = 3
+
+abbrev pub lineField : ℕ
+lineField = 4
+
+abbrev pub priorityField : ℕ
+priorityField = 5
+
+abbrev pub edgeField : ℕ
+edgeField = 13
+
+-- the edge flags of a vCPU's SGIs
+abbrev pub sgiEdgesAt : ℕ → ℕ
+sgiEdgesAt v = block v + edgeField
 
 -- the place of the route of an SPI
 abbrev pub routeAt : ℕ → ℕ

@@ -2,6 +2,7 @@
 use Prim.Native.Nat.{ℕ}
 use mathlib.Core.Bool.{Bool, true, not, cond, _&&_}
 use mathlib.Core.List.{List}
+use Rattle.model.specs.Layout.{latchField, lineField}
 use Rattle.model.specs.Interrupts.{edge, line, setFlag}
 
 -- an edge interrupt going 0 to 1 is latched
@@ -10,4 +11,4 @@ latches s v id level = edge s v id && not (line s v id) && level
 
 -- stores the level of a PPI or SPI
 unfoldable pub lineChanged : List ℕ → ℕ → ℕ → Bool → List ℕ
-lineChanged s v id level = setFlag 4 level v id (cond (latches s v id level) (setFlag 2 true v id s) s)
+lineChanged s v id level = setFlag lineField level v id (cond (latches s v id level) (setFlag latchField true v id s) s)

@@ -5,7 +5,7 @@ use mathlib.Core.List.{List, [], _∷_}
 use lib.Dec.{eqb, ltb, leb}
 use lib.ListN.{set}
 use Rattle.model.specs.Words.{bit, gather}
-use Rattle.model.specs.Layout.{word, count, vcpus, enablesAt, distributorStatusAt, frameStatusAt, affinity, bank, routeAt}
+use Rattle.model.specs.Layout.{word, count, vcpus, enablesAt, distributorStatusAt, frameStatusAt, affinity, bank, groupField, enabledField, latchField, activeField, lineField, priorityField, edgeField, routeAt}
 use Rattle.model.specs.Interrupts.{isPrivate, isSpi, flag, edge, priority, route, pending}
 use Rattle.model.specs.declared.View.{View}
 use Rattle.model.specs.declared.View.the-variants.{Distributor, Frame}
@@ -97,14 +97,14 @@ abbrev pub flagRow : ℕ → ℕ → Shown → Rule → Shown → Rule → FlagR
 flagRow k f gs gr hs hr = record { field = k; from = f; guestShows = gs; guestRule = gr; attributeShows = hs; attributeRule = hr }
 
 unfoldable pub flags : Flags → FlagRow
-flags Group = flagRow 0 0 Flag Replaces Flag Replaces
-flags SetEnable = flagRow 1 0 Flag Sets Flag Sets
-flags ClearEnable = flagRow 1 0 Flag Clears Flag Clears
-flags SetPending = flagRow 2 0 Pending Sets Flag Replaces
-flags ClearPending = flagRow 2 0 Pending Clears Nothing Ignores
-flags SetActive = flagRow 3 0 Flag Sets Flag Sets
-flags ClearActive = flagRow 3 0 Flag Clears Flag Clears
-flags Lines = flagRow 4 16 Nothing Ignores Flag Replaces
+flags Group = flagRow groupField 0 Flag Replaces Flag Replaces
+flags SetEnable = flagRow enabledField 0 Flag Sets Flag Sets
+flags ClearEnable = flagRow enabledField 0 Flag Clears Flag Clears
+flags SetPending = flagRow latchField 0 Pending Sets Flag Replaces
+flags ClearPending = flagRow latchField 0 Pending Clears Nothing Ignores
+flags SetActive = flagRow activeField 0 Flag Sets Flag Sets
+flags ClearActive = flagRow activeField 0 Flag Clears Flag Clears
+flags Lines = flagRow lineField 16 Nothing Ignores Flag Replaces
 
 -- who reads or writes
 pub data By : Type 0 where
@@ -193,14 +193,14 @@ writeFlags s x field from rule k value =
 -- the bytes of the value that `meant` names are written, their low 3 bits dropped
 unfoldable pub writePriority : List ℕ → View → (ℕ → Bool) → ℕ → ℕ → List ℕ
 writePriority s x meant k value =
-    set s (bank (seenBy x) (k / 8) + 5 + k % 8)
+    set s (bank (seenBy x) (k / 8) + priorityField + k % 8)
     (gather 32 (λ i. cond (meant (i / 8) && has s x (4 * k + i / 8))
     (leb 3 (i % 8) && bit value i) (bit (priority s (seenBy x) (4 * k + i / 8)) (i % 8))))
 
 -- the upper bit of each two is the edge flag; latch and line are kept
 unfoldable pub writeConfig : List ℕ → View → ℕ → ℕ → List ℕ
 writeConfig s x k value =
-    set s (bank (seenBy x) (k / 2) + 13 + k % 2)
+    set s (bank (seenBy x) (k / 2) + edgeField + k % 2)
     (gather 16 (λ i. cond (has s x (16 * k + i)) (bit value (2 * i + 1)) (edge s (seenBy x) (16 * k + i))))
 
 -- bits 23-0 of the low word are kept
@@ -227,7 +227,7 @@ write by s x FrameAffinity k value = s
 
 -- ---- a guest's access: 4 bytes aligned, or 1 byte in IPRIORITYR; all else reads 0 and ignores writes
 
--- how many bytes an access has of the word that it meets: four, one, or none
+-- what an access reaches of a word: all four bytes, one, or none
 pub data Access : Type 0 where
   whole one none : Access
 

@@ -5,7 +5,7 @@ use mathlib.Core.List.{List, [], _∷_}
 use lib.Dec.{leb, ltb, eqb}
 use lib.ListN.{length, getD}
 use Rattle.model.specs.Words.{within, every, allBelow}
-use Rattle.model.specs.Layout.{stateLength, mostVcpus, initialised, isInitialised, count, vcpus, vcpuWord, affinity, running}
+use Rattle.model.specs.Layout.{stateLength, mostVcpus, word, initialised, isInitialised, count, vcpus, affinity, running, bprAt, leastBpr, sgiEdgesAt}
 
 -- ---- the bits that a word may have
 
@@ -98,9 +98,9 @@ isAffinity a = ltb a 0x1000000 && leb (a % 256) 15
 unfoldable pub unused : List ℕ → ℕ → ℕ → Bool
 unused s a n = allBelow (λ v. not (eqb (affinity s v) a)) n
 
--- SGIs are edge, BPR0 is at least 2 and BPR1 at least 3, and no vCPU before v has its affinity
+-- SGIs are edge, BPR0 and BPR1 have at least their least values, and no vCPU before v has its affinity
 unfoldable pub vcpuOk : List ℕ → ℕ → Bool
-vcpuOk s v = eqb (vcpuWord s v 13) 0xffff && leb 2 (vcpuWord s v 21) && leb 3 (vcpuWord s v 22) && unused s (affinity s v) v
+vcpuOk s v = eqb (word s (sgiEdgesAt v)) 0xffff && leb (leastBpr 0) (word s (bprAt v 0)) && leb (leastBpr 1) (word s (bprAt v 1)) && unused s (affinity s v) v
 
 -- ---- sound
 
