@@ -23,11 +23,11 @@ use Rattle.model.specs.declared.AttributeGroup.the-variants.{Registers}
 use Rattle.model.proofs.Tests.{and-true}
 use Rattle.model.proofs.Soundness.{Ready, ready, stopped-mark}
 use Rattle.model.proofs.Refused.{passed, none-of, tests-next, fault-first, IsGranted, is-granted, every-call, errno-positive}
-use Rattle.model.proofs.Readings.{block-word}
-use Rattle.model.proofs.Listed.{Listed, groups, enables, latches, actives, pmr, ctlr, bpr0, bpr1, ap0r, ap1r, igrpen0, igrpen1, encodingOf, control, status, spi-flags, spi-lines, spi-priority, spi-config, spi-route, vcpu-status, vcpu-flags, vcpu-lines, vcpu-priority, vcpu-system}
+use Rattle.model.proofs.Listed.{Listed, groups, enables, latches, actives, pmr, ctlr, ap0r, ap1r, igrpen0, igrpen1, encodingOf, control, status, spi-flags, spi-lines, spi-priority, spi-config, spi-route, vcpu-status, vcpu-flags, vcpu-lines, vcpu-priority, vcpu-system, bpr0, bpr1}
 use Rattle.model.proofs.Places.{small-encoding, placeOf, shown, shapeOf, namedBy, index-of, vcpu-parts, names-item}
 use Rattle.model.proofs.Cover.{shows}
 use Rattle.model.proofs.Puts.{ctlr-word}
+use Rattle.model.proofs.Masks.{block-word}
 
 -- ---- the group of a listed attribute
 

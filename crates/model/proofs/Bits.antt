@@ -1,14 +1,15 @@
 -- Laws of `bit` and `gather`: a word below 2 ^ n is its n bits.
-use Prim.Native.Nat.{ℕ, zero, suc, _+_, _*_, _-_, _/_, _%_, _^_, _<_}
+use Prim.Native.Nat.{ℕ, zero, suc, _+_, _*_, _-_, _/_, _%_, _^_, _≤_, _<_}
 use mathlib.Core.Path.{_≡_, refl, sym, ap, _∙_}
-use mathlib.Core.Bool.{Bool, true, false}
-use native.Mathlib.Nat.{mod-lt, mod-eq-of-lt, add-comm, mod-one}
+use mathlib.Core.Bool.{Bool, true, false, _&&_}
+use native.Mathlib.Nat.{mod-lt, mod-eq-of-lt, add-comm, mod-one, div-eq-of-lt}
 use native.Mathlib.Numerals.{one-add}
 use native.Mathlib.Omega.{arith}
 use native.Mathlib.Decide.{decLt}
 use lib.Dec.{eqb}
-use lib.Pow.{pow-add, mod-pow-add, high, low, field, mod-mod-pow}
+use lib.Pow.{pow-mono, shr-shr, pow-add, mod-pow-add, high, low, field, mod-mod-pow}
 use Rattle.model.specs.Words.{val, bit, gather}
+use Rattle.model.proofs.Tests.{and-implied, not-both}
 
 pub val-lt : (b : Bool) → val b < 2
 val-lt true = omega arith
@@ -81,3 +82,28 @@ bit-gather (suc n) f i h = step (decLt i n) (bit-gather n f i)
 
 pub word-is : (n w : ℕ) (f : ℕ → Bool) → w < 2 ^ n → ((i : ℕ) → i < n → bit w i ≡ f i) → w ≡ gather n f
 word-is n w f h e = sym (mod-eq-of-lt h) ∙ sym (gather-bits n w) ∙ gather-same n (bit w) f e
+
+-- ---- one bit, and words gathered of bits that pass a test
+
+pub bit-shift : (w a i : ℕ) → bit (w / 2 ^ a) i ≡ bit w (a + i)
+unfolding bit
+bit-shift w a i = ap (λ (x : ℕ). eqb (x % 2) 1) (shr-shr w a i)
+
+above : (w i : ℕ) → w < 2 ^ i → bit w i ≡ false
+unfolding bit
+above w i l = rw (div-eq-of-lt l)
+
+-- a set bit lies below the word's length
+pub bit-below : (n w i : ℕ) → w < 2 ^ n → bit w i ≡ true → i < n
+bit-below n w i l b = go (decLt i n)
+  where
+    none : n ≤ i → bit w i ≡ false
+    none h = let q : w < 2 ^ i = omega (arith, pow-mono h) in above w i q
+
+    go : Dec (i < n) → i < n
+    go (yes h) = h
+    go (no h) = absurd (not-both (bit w i) b (none (omega arith)))
+
+-- a word whose set bits all pass a test is what is gathered of them
+pub gather-passed : (w : ℕ) (p : ℕ → Bool) → w < 2 ^ 32 → ((i : ℕ) → i < 32 → bit w i ≡ true → p i ≡ true) → gather 32 (λ i. p i && bit w i) ≡ w
+gather-passed w p l h = sym (word-is 32 w (λ i. p i && bit w i) l (λ i k. sym (and-implied (p i) (bit w i) (h i k))))

@@ -19,66 +19,10 @@ use Rattle.model.specs.Demands.{Stopped, Alike}
 use Rattle.model.proofs.Within.{fits-lt, fits-le, fits-none}
 use Rattle.model.proofs.Soundness.{Ready, ready, stopped-mark, stopped-running, open-vcpu}
 use Rattle.model.proofs.Bits.{gather-lt}
-use Rattle.model.proofs.Readings.{SpiWord, spread, block-word}
-use Rattle.model.proofs.Listed.{Kept, groups, enables, latches, actives, offsetOf, Stored, pmr, ctlr, bpr0, bpr1, ap0r, ap1r, igrpen0, igrpen1, encodingOf, Listed, control, status, spi-flags, spi-lines, spi-priority, spi-config, spi-route, vcpu-status, vcpu-flags, vcpu-lines, vcpu-priority, vcpu-system, member}
-use Rattle.model.proofs.Places.{fieldOf, storedAt, field-small, stored-small, placeOf, Shape, itself, edges, shown, shapeOf, roomOf, shown-once, namedBy, reads-place}
-
--- ---- the bits that a word may have, region by region
-
-pub entry-there : (b : Bool) (bits : List ℕ) (j : ℕ) → b ≡ true → entry b bits j ≡ getD bits j 0
-unfolding entry
-entry-there b bits j e = rw e
-
-pub entry-absent : (b : Bool) (bits : List ℕ) (j : ℕ) → b ≡ false → entry b bits j ≡ 0
-unfolding entry
-entry-absent b bits j e = rw e
-
-module _ (c n : ℕ) where
-  pub header-bits : (k : ℕ) → k < 16 → usedBits c n k ≡ getD headerBits k 0
-  unfolding usedBits entry
-  header-bits k l = rw (lt-ltb k 16 l)
-
-  pub block-bits : (v j : ℕ) → v < 8 → j < 32 → usedBits c n (block v + j) ≡ entry (ltb v n) blockBits j
-  unfolding usedBits
-  block-bits v j l m =
-      let d : (block v + j - 16) / 32 ≡ v = omega arith in
-      let r : (block v + j - 16) % 32 ≡ j = omega arith in
-      rw (le-ltb (block v + j) 16 (omega arith), lt-ltb (block v + j) 272 (omega arith), d, r)
-
-  pub bank-bits : (w j : ℕ) → 1 ≤ w → w < 31 → j < 16 → usedBits c n (256 + 16 * w + j) ≡ entry (ltb (32 * w) c) bankBits j
-  unfolding usedBits
-  bank-bits w j a b m =
-      let d : (256 + 16 * w + j - 256) / 16 ≡ w = omega arith in
-      let r : (256 + 16 * w + j - 256) % 16 ≡ j = omega arith in
-      rw (le-ltb (256 + 16 * w + j) 16 (omega arith), le-ltb (256 + 16 * w + j) 272 (omega arith), lt-ltb (256 + 16 * w + j) 752 (omega arith), d, r)
-
-  pub last-bits : (j : ℕ) → j < 16 → usedBits c n (752 + j) ≡ entry (ltb 992 c) lastBankBits j
-  unfolding usedBits
-  last-bits j m =
-      let e : 752 + j - 752 ≡ j = omega arith in
-      rw (le-ltb (752 + j) 16 (omega arith), le-ltb (752 + j) 272 (omega arith), le-ltb (752 + j) 752 (omega arith), lt-ltb (752 + j) 768 (omega arith), e)
-
-  pub route-bits : (id : ℕ) → 32 ≤ id → id < min c 1020 → usedBits c n (routeAt id) ≡ 0x00ffffff
-  unfolding usedBits
-  route-bits id l m =
-      let e : routeAt id - 736 ≡ id = omega arith in
-      rw (
-        le-ltb (routeAt id) 16 (omega arith),
-        le-ltb (routeAt id) 272 (omega arith),
-        le-ltb (routeAt id) 752 (omega arith),
-        le-ltb (routeAt id) 768 (omega arith),
-        lt-ltb (routeAt id) 1756 (omega arith),
-        e,
-        lt-ltb id c (omega arith),
-      )
-
-  pub route-none : (p : ℕ) → 768 ≤ p → (p < 1756 → c ≤ p - 736) → usedBits c n p ≡ 0
-  unfolding usedBits
-  route-none p l h = rw (le-ltb p 16 (omega arith), le-ltb p 272 (omega arith), le-ltb p 752 (omega arith), le-ltb p 768 (omega arith)) (go (decLt p 1756))
-    where
-      go : Dec (p < 1756) → _≡_ {A = ℕ} (cond (ltb p 1756 && ltb (p - 736) c) 0x00ffffff 0) 0
-      go (yes q) = rw (lt-ltb p 1756 q, le-ltb (p - 736) c (h q))
-      go (no q) = rw (le-ltb p 1756 (omega arith))
+use Rattle.model.proofs.Masks.{entry-there, entry-absent, header-bits, block-bits, bank-bits, last-bits, route-none, SpiWord, header-word, block-word, bank-is}
+use Rattle.model.proofs.Readings.{spread}
+use Rattle.model.proofs.Listed.{Kept, groups, enables, latches, actives, offsetOf, Stored, pmr, ctlr, ap0r, ap1r, igrpen0, igrpen1, encodingOf, Listed, control, status, spi-flags, spi-lines, spi-priority, spi-config, spi-route, vcpu-status, vcpu-flags, vcpu-lines, vcpu-priority, vcpu-system, member, bpr0, bpr1}
+use Rattle.model.proofs.Places.{fieldOf, storedAt, field-small, stored-small, placeOf, Shape, itself, shown, shapeOf, roomOf, shown-once, namedBy, reads-place, edges}
 
 -- ---- a word is a listed attribute's, or alike in both devices
 
@@ -258,33 +202,22 @@ module _ (s : List ℕ) (h : Ready s) where
   place-inside (vcpu-system v p l) = omega (arith, stored-small p, h .few)
 
   pub edge-words : (w j : ℕ) → SpiWord s w → j < 2 → word s (256 + 16 * w + (13 + j)) < 2 ^ 16
-  edge-words w j q l = go (decLt w 31)
+  edge-words w j q l =
+      let p = 256 + 16 * w + (13 + j) in
+      let m : usedBits (count s) (vcpus s) p ≤ 0xffff = bank-is s h (λ x. x ≤ 0xffff) w (13 + j) q (omega arith) (λ r. in-table j l .0) (λ r. in-table j l .1) in
+      omega (arith, fits-le (word s p) (usedBits (count s) (vcpus s) p) (h .used p (omega (arith, q .high, h .counted .most))))
     where
       in-table : (i : ℕ) → i < 2 → (getD bankBits (13 + i) 0 ≤ 0xffff) × (getD lastBankBits (13 + i) 0 ≤ 0xffff)
       in-table zero m = (omega arith, omega arith)
       in-table (suc zero) m = (omega arith, omega arith)
       in-table (suc (suc i)) m = absurd (omega arith)
 
-      fit : fits (word s (256 + 16 * w + (13 + j))) (usedBits (count s) (vcpus s) (256 + 16 * w + (13 + j))) ≡ true
-      fit = h .used (256 + 16 * w + (13 + j)) (omega (arith, q .high, h .counted .most))
-
-      go : Dec (w < 31) → word s (256 + 16 * w + (13 + j)) < 2 ^ 16
-      go (yes r) =
-          let m : usedBits (count s) (vcpus s) (256 + 16 * w + (13 + j)) ≡ getD bankBits (13 + j) 0 =
-          bank-bits (count s) (vcpus s) w (13 + j) (q .low) r (omega arith) ∙ entry-there (ltb (32 * w) (count s)) bankBits (13 + j) (lt-ltb (32 * w) (count s) (omega (arith, q .high))) in
-          omega (arith, fits-le _ _ (rw m at fit), in-table j l .0)
-      go (no r) =
-          let e : 256 + 16 * w + (13 + j) ≡ 752 + (13 + j) = omega (arith, q .high, h .counted .most) in
-          let m : usedBits (count s) (vcpus s) (752 + (13 + j)) ≡ getD lastBankBits (13 + j) 0 =
-          last-bits (count s) (vcpus s) (13 + j) (omega arith) ∙ entry-there (ltb 992 (count s)) lastBankBits (13 + j) (lt-ltb 992 (count s) (omega (arith, q .high))) in
-          rw e (omega (arith, fits-le _ _ (rw m at (rw e at fit)), in-table j l .1))
-
   itself-shows : (p : ℕ) → p < stateLength → Shows s itself p
   itself-shows p l = let f = fits-lt (word s p) (usedBits (count s) (vcpus s) p) (h .used p l) in record { room = f; small = f }
 
   pub shows : {a : Attribute} (l : Listed s a) → Shows s (shapeOf l) (placeOf l)
   unfolding spread
-  shows control = let f = fits-le (word s 3) 3 (rw (header-bits (count s) (vcpus s) 3 (omega arith)) at (h .used 3 (omega arith))) in record { room = omega arith; small = omega arith }
+  shows control = let f = fits-le (word s 3) 3 (header-word s h 3 (omega arith)) in record { room = omega arith; small = omega arith }
   shows status = itself-shows 4 (omega arith)
   shows (spi-flags w k q) = itself-shows _ (place-inside (spi-flags w k q))
   shows (spi-lines w q) = itself-shows _ (place-inside (spi-lines w q))

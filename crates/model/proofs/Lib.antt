@@ -1,6 +1,6 @@
 -- The theorems of the device, and its worked examples.
-pub mod Bits
 pub mod Tests
+pub mod Bits
 pub mod Within
 pub mod Soundness
 pub mod Fresh
@@ -9,6 +9,7 @@ pub mod Decode
 pub mod Numbers
 pub mod Best
 pub mod Level
+pub mod Masks
 pub mod Readings
 pub mod Listed
 pub mod Sizes

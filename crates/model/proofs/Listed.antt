@@ -10,7 +10,7 @@ use Rattle.model.specs.Layout.{count, vcpus}
 use Rattle.model.specs.Attributes.{Attribute, attr}
 use Rattle.model.specs.Record.{spiWords, spis, ofVcpu, ofSpiWord, ofRoute, ofVcpuBlock, listed}
 use Rattle.model.proofs.Soundness.{Ready}
-use Rattle.model.proofs.Readings.{SpiWord}
+use Rattle.model.proofs.Masks.{SpiWord}
 
 -- ---- the registers of flags that are listed: the set register stands for the pair
 

@@ -25,10 +25,11 @@ use Rattle.model.proofs.Bits.{word-is}
 use Rattle.model.proofs.Tests.{both, implied, and-true, and-implied, below-at}
 use Rattle.model.proofs.Within.{bit-none, fits-bit, fits-lt, fits-le, wider}
 use Rattle.model.proofs.Soundness.{Ready, open-vcpu}
-use Rattle.model.proofs.Readings.{SpiWord, spread, flag-bit, priority-bit, bank-at, fits-word, flag-exists, priority-exists, edge-exists, private, block-word, line-ppi}
-use Rattle.model.proofs.Listed.{Listed, Kept, groups, enables, latches, actives, Stored, pmr, ctlr, bpr0, bpr1, ap0r, ap1r, igrpen0, igrpen1, control, status, spi-flags, spi-lines, spi-priority, spi-config, spi-route, vcpu-status, vcpu-flags, vcpu-lines, vcpu-priority, vcpu-system}
+use Rattle.model.proofs.Masks.{route-bits, SpiWord, fits-word, header-word, block-word, bank-is}
+use Rattle.model.proofs.Readings.{spread, flag-bit, priority-bit, bank-at, flag-exists, priority-exists, edge-exists, private, line-ppi}
+use Rattle.model.proofs.Listed.{Listed, Kept, groups, enables, latches, actives, Stored, pmr, ctlr, ap0r, ap1r, igrpen0, igrpen1, control, status, spi-flags, spi-lines, spi-priority, spi-config, spi-route, vcpu-status, vcpu-flags, vcpu-lines, vcpu-priority, vcpu-system, bpr0, bpr1}
 use Rattle.model.proofs.Places.{storedAt, placeOf, shown, systemShape, shapeOf, plainOf, namedBy, spread-bit}
-use Rattle.model.proofs.Cover.{entry-there, header-bits, bank-bits, last-bits, route-bits, edge-words, spi-of, vcpu-of}
+use Rattle.model.proofs.Cover.{edge-words, spi-of, vcpu-of}
 
 -- ---- one bit
 
@@ -154,9 +155,6 @@ ctlr-word w e = (eqb-true _ _ (of-mask 2 3 (λ u. eqb ((0x400 + u) / 2 % 2 * 2) 
     taken = unfold allBelow fits within in refl
 
 module _ (s : List ℕ) (h : Ready s) where
-  header-word : (k : ℕ) → k < 16 → fits (word s k) (getD headerBits k 0) ≡ true
-  header-word k l = rw (header-bits (count s) (vcpus s) k l) at (h .used k (omega arith))
-
   route-word : (id : ℕ) → 32 ≤ id → id < min (count s) 1020 → word s (routeAt id) < 2 ^ 24
   route-word id l m = omega (arith, fits-le (word s (routeAt id)) 0x00ffffff (rw (route-bits (count s) (vcpus s) id l m) at (h .used (routeAt id) (omega arith))))
 
@@ -172,21 +170,11 @@ module _ (s : List ℕ) (h : Ready s) where
       (eqb-true _ _ (a .0), b .0, eqb-true _ _ (b .1))
 
   spi-eights : (w j : ℕ) → SpiWord s w → j < 8 → fits (word s (256 + 16 * w + (5 + j))) 0xf8f8f8f8 ≡ true
-  spi-eights w j q l = go (decLt w 31)
-    where
-      fit : fits (word s (256 + 16 * w + (5 + j))) (usedBits (count s) (vcpus s) (256 + 16 * w + (5 + j))) ≡ true
-      fit = h .used (256 + 16 * w + (5 + j)) (omega (arith, q .high, h .counted .most))
-
-      go : Dec (w < 31) → fits (word s (256 + 16 * w + (5 + j))) 0xf8f8f8f8 ≡ true
-      go (yes r) =
-          let m : usedBits (count s) (vcpus s) (256 + 16 * w + (5 + j)) ≡ 0xf8f8f8f8 =
-          bank-bits (count s) (vcpus s) w (5 + j) (q .low) r (omega arith) ∙ entry-there (ltb (32 * w) (count s)) bankBits (5 + j) (lt-ltb (32 * w) (count s) (omega (arith, q .high))) ∙ eight-words j l .0 in
-          rw m at fit
-      go (no r) =
-          let e : 256 + 16 * w + (5 + j) ≡ 752 + (5 + j) = omega (arith, q .high, h .counted .most) in
-          let m : usedBits (count s) (vcpus s) (752 + (5 + j)) ≡ getD lastBankBits (5 + j) 0 =
-          last-bits (count s) (vcpus s) (5 + j) (omega arith) ∙ entry-there (ltb 992 (count s)) lastBankBits (5 + j) (lt-ltb 992 (count s) (omega (arith, q .high))) in
-          rw e (wider _ (getD lastBankBits (5 + j) 0) 0xf8f8f8f8 (rw m at (rw e at fit)) (eight-words j l .1))
+  spi-eights w j q l =
+      let p = 256 + 16 * w + (5 + j) in
+      let e = eight-words j l in
+      wider (word s p) (usedBits (count s) (vcpus s) p) 0xf8f8f8f8 (h .used p (omega (arith, q .high, h .counted .most)))
+      (bank-is s h (λ x. within 32 x 0xf8f8f8f8 ≡ true) w (5 + j) q (omega arith) (λ r. rw (e .0) (unfold within in refl)) (λ r. e .1))
 
 -- ---- a put of a listed attribute
 

@@ -6,7 +6,7 @@ use mathlib.Core.List.{List}
 use native.Mathlib.Nat.{div-eq-of-lt}
 use native.Mathlib.Decide.{decLt}
 use native.Mathlib.Omega.{arith}
-use borrow.Author.Tests.{eqb-true, lt-ltb, le-ltb, le-leb, not-true}
+use borrow.Author.Tests.{lt-ltb, leb-true, le-leb, not-true}
 use lib.Dec.{eqb, leb}
 use lib.ListN.{getD}
 use lib.Pow.{shr-shr, pow-mono}
@@ -18,35 +18,11 @@ use Rattle.model.specs.Registers.{has, seenBy, shows, readFlags, readPri
 use Rattle.model.specs.declared.View.{View}
 use Rattle.model.specs.declared.View.the-variants.{Distributor, Frame}
 use Rattle.model.specs.declared.Shown.the-variants.{Flag}
-use Rattle.model.proofs.Bits.{gather-same, bit-mod, word-is}
+use Rattle.model.proofs.Bits.{gather-same, bit-mod, bit-shift, bit-below, gather-passed}
 use Rattle.model.proofs.Tests.{and-true, and-implied, not-both, below-at}
 use Rattle.model.proofs.Within.{bit-none, fits-lt, fits-bit, fits-none}
 use Rattle.model.proofs.Soundness.{Ready}
-
--- ---- bits of a word
-
-pub bit-shift : (w a i : ℕ) → bit (w / 2 ^ a) i ≡ bit w (a + i)
-unfolding bit
-bit-shift w a i = ap (λ (x : ℕ). eqb (x % 2) 1) (shr-shr w a i)
-
-above : (w i : ℕ) → w < 2 ^ i → bit w i ≡ false
-unfolding bit
-above w i l = rw (div-eq-of-lt l)
-
--- a set bit lies below the word's length
-pub bit-below : (n w i : ℕ) → w < 2 ^ n → bit w i ≡ true → i < n
-bit-below n w i l b = go (decLt i n)
-  where
-    none : n ≤ i → bit w i ≡ false
-    none h = let q : w < 2 ^ i = omega (arith, pow-mono h) in above w i q
-
-    go : Dec (i < n) → i < n
-    go (yes h) = h
-    go (no h) = absurd (not-both (bit w i) b (none (omega arith)))
-
--- a word whose set bits all pass a test is what is gathered of them
-pub gather-passed : (w : ℕ) (p : ℕ → Bool) → w < 2 ^ 32 → ((i : ℕ) → i < 32 → bit w i ≡ true → p i ≡ true) → gather 32 (λ i. p i && bit w i) ≡ w
-gather-passed w p l h = sym (word-is 32 w (λ i. p i && bit w i) l (λ i k. sym (and-implied (p i) (bit w i) (h i k))))
+use Rattle.model.proofs.Masks.{SpiWord, fits-word, block-word, bank-bit}
 
 -- sixteen edge flags as ICFGR reads them: each is the upper of two bits, the lower is 0
 unfoldable pub spread : ℕ → ℕ
@@ -58,69 +34,48 @@ and-assoc false b c = refl
 
 -- ---- the interrupts of a bank: where a word of it has a bit, the interrupt exists
 
--- w is an SPI word of the device
-pub record SpiWord (s : List ℕ) (w : ℕ) : Type 0 where
-  pub low : 1 ≤ w
-  pub high : 32 * w + 32 ≤ count s
-
 module _ (s : List ℕ) (h : Ready s) where
   pub is-spi : (id : ℕ) → 32 ≤ id → id < count s → id < 1020 → isSpi s id ≡ true
   unfolding isSpi
   is-spi id a b c = and-true (le-leb 32 id a) (lt-ltb id (min (count s) 1020) (omega arith))
 
-  -- the bits of word k of the last bank, of the interrupts from 992 on
-  last : (k : ℕ) → k < 15 → 992 < count s → fits (word s (752 + k)) (getD lastBankBits k 0) ≡ true
-  unfolding usedBits entry
-  last k l c =
-      let e : 752 + k - 752 ≡ k = omega arith in
-      rw (le-ltb (752 + k) 16 (omega arith), le-ltb (752 + k) 272 (omega arith), le-ltb (752 + k) 752 (omega arith), lt-ltb (752 + k) 768 (omega arith), lt-ltb 992 (count s) c, e)
-      at (h .used (752 + k) (omega arith))
-
   -- a flag
   pub flag-exists : (w k i : ℕ) → SpiWord s w → k < 5 → i < 32 → bit (word s (256 + 16 * w + k)) i ≡ true → isSpi s (32 * w + i) ≡ true
-  flag-exists w k i q l m b = go (decLt w 31)
+  flag-exists w k i q l m b = is-spi (32 * w + i) (omega (arith, q .low)) (omega (arith, q .high)) small
     where
-      masks : allBelow (λ j. eqb (getD lastBankBits j 0) 0x0fffffff) 5 ≡ true
-      masks = unfold allBelow in refl
+      last-flags : allBelow (λ j. leb (getD lastBankBits j 0) 0x0fffffff) 5 ≡ true
+      last-flags = unfold allBelow in refl
 
-      mask : (j : ℕ) → j < 5 → getD lastBankBits j 0 ≡ 0x0fffffff
-      mask j r = eqb-true _ _ (below-at (λ n. eqb (getD lastBankBits n 0) 0x0fffffff) 5 masks j r)
-
-      go : Dec (w < 31) → isSpi s (32 * w + i) ≡ true
-      go (yes r) = is-spi (32 * w + i) (omega (arith, q .low)) (omega (arith, q .high)) (omega arith)
-      go (no r) =
-          let e : w ≡ 31 = omega (arith, q .high, h .counted .most) in
-          let f : 256 + 16 * w + k ≡ 752 + k = omega arith in
-          let in28 : i < 28 = bit-below 28 0x0fffffff i (omega arith)
-          (fits-bit (word s (752 + k)) 0x0fffffff i (rw (mask k l) at (last k (omega arith) (omega (arith, q .high)))) (rw f at b)) in
-          is-spi (32 * w + i) (omega (arith, q .low)) (omega (arith, q .high)) (omega arith)
+      small : 32 * w + i < 1020
+      small =
+          bank-bit s h w k i q (omega arith) (λ r e. omega arith)
+          (λ r e. omega (arith, bit-below 28 (getD lastBankBits k 0) i (omega (arith, leb-true (getD lastBankBits k 0) 0x0fffffff (below-at (λ j. leb (getD lastBankBits j 0) 0x0fffffff) 5 last-flags k l))) e)) b
 
   -- a priority: word j of eight, a byte for each of four interrupts
   pub priority-exists : (w j i : ℕ) → SpiWord s w → j < 8 → i < 32 → bit (word s (256 + 16 * w + (5 + j))) i ≡ true → isSpi s (32 * w + 4 * j + i / 8) ≡ true
-  priority-exists w j i q l m b = go (decLt (32 * w + 4 * j) 1020)
+  priority-exists w j i q l m b = is-spi (32 * w + 4 * j + i / 8) (omega (arith, q .low)) (omega (arith, q .high)) small
     where
-      go : Dec (32 * w + 4 * j < 1020) → isSpi s (32 * w + 4 * j + i / 8) ≡ true
-      go (yes r) = is-spi (32 * w + 4 * j + i / 8) (omega (arith, q .low)) (omega (arith, q .high)) (omega arith)
-      go (no r) =
-          let e : 256 + 16 * w + (5 + j) ≡ 752 + 12 = omega (arith, q .high, h .counted .most) in
-          let z : word s (752 + 12) ≡ 0 = fits-none (word s (752 + 12)) (last 12 (omega arith) (omega (arith, q .high))) in
-          absurd (not-both (bit 0 i) (rw (e, z) at b) (bit-none i))
+      last-word : (n : ℕ) → n ≡ 7 → bit (getD lastBankBits (5 + n) 0) i ≡ true → ⊥
+      last-word n e t = not-both (bit 0 i) (rw e at t) (bit-none i)
+
+      small : 32 * w + 4 * j + i / 8 < 1020
+      small =
+          bank-bit s h w (5 + j) i q (omega arith) (λ r e. omega arith)
+          (λ r e. elim (decLt j 7) [ yes n ↦ omega arith | no n ↦ absurd (last-word j (omega arith) e) ]) b
 
   -- an edge flag: half j of two
   pub edge-exists : (w j i : ℕ) → SpiWord s w → j < 2 → i < 16 → bit (word s (256 + 16 * w + (13 + j))) i ≡ true → isSpi s (32 * w + 16 * j + i) ≡ true
-  edge-exists w j i q l m b = go (decLt (32 * w + 16 * j) 1008)
+  edge-exists w j i q l m b = is-spi (32 * w + 16 * j + i) (omega (arith, q .low)) (omega (arith, q .high)) small
     where
-      go : Dec (32 * w + 16 * j < 1008) → isSpi s (32 * w + 16 * j + i) ≡ true
-      go (yes r) = is-spi (32 * w + 16 * j + i) (omega (arith, q .low)) (omega (arith, q .high)) (omega arith)
-      go (no r) =
-          let e : 256 + 16 * w + (13 + j) ≡ 752 + 14 = omega (arith, q .high, h .counted .most) in
-          let in12 : i < 12 = bit-below 12 0x0fff i (omega arith) (fits-bit (word s (752 + 14)) 0x0fff i (last 14 (omega arith) (omega (arith, q .high))) (rw e at b)) in
-          is-spi (32 * w + 16 * j + i) (omega (arith, q .low)) (omega (arith, q .high)) (omega arith)
+      last-word : (n : ℕ) → n ≡ 1 → bit (getD lastBankBits (13 + n) 0) i ≡ true → i < 12
+      last-word n e t = bit-below 12 0x0fff i (omega arith) (rw e at t)
+
+      small : 32 * w + 16 * j + i < 1020
+      small =
+          bank-bit s h w (13 + j) i q (omega arith) (λ r e. omega arith)
+          (λ r e. elim (decLt j 1) [ yes n ↦ omega arith | no n ↦ omega (arith, last-word j (omega arith) e) ]) b
 
   -- ---- what a word of 32 flags reads
-
-  pub fits-word : (k : ℕ) → k < stateLength → word s k < 2 ^ 32
-  fits-word k l = fits-lt (word s k) (usedBits (count s) (vcpus s) k) (h .used k l)
 
   pub bank-at : (v w : ℕ) → 1 ≤ w → bank v w ≡ 256 + 16 * w
   bank-at v zero l = absurd (omega arith)
@@ -148,7 +103,7 @@ module _ (s : List ℕ) (h : Ready s) where
   reads-spi-flags w k from q l f =
       let b : bank 0 w ≡ 256 + 16 * w = bank-at 0 w (q .low) in
       let top : w < 32 = omega (arith, q .high, h .counted .most) in
-      reads-word Distributor k from w (rw b (fits-word (256 + 16 * w + k) (omega arith)))
+      reads-word Distributor k from w (rw b (fits-word s h (256 + 16 * w + k) (omega arith)))
       (λ i m e. and-true (flag-exists w k i q l m (rw b at e)) (le-leb from (32 * w + i) (omega (arith, q .low))))
       ∙ rw b
 
@@ -157,18 +112,10 @@ module _ (s : List ℕ) (h : Ready s) where
   unfolding isPrivate
   private i l = lt-ltb (32 * 0 + i) 32 (omega arith)
 
-  pub block-word : (v j : ℕ) → v < vcpus s → j < 27 → fits (word s (block v + j)) (getD blockBits j 0) ≡ true
-  unfolding usedBits entry
-  block-word v j l m =
-      let d : (block v + j - 16) / 32 ≡ v = omega arith in
-      let r : (block v + j - 16) % 32 ≡ j = omega arith in
-      rw (le-ltb (block v + j) 16 (omega arith), lt-ltb (block v + j) 272 (omega (arith, h .few)), d, lt-ltb v (vcpus s) l, r)
-      at (h .used (block v + j) (omega (arith, h .few)))
-
   pub reads-private-flags : (v k : ℕ) → v < vcpus s → k < 4 → readFlags s (Frame v) k 0 Flag 0 ≡ word s (block v + k)
   unfolding has seenBy
   reads-private-flags v k l m =
-      reads-word (Frame v) k 0 0 (fits-word (block v + k) (omega (arith, h .few)))
+      reads-word (Frame v) k 0 0 (fits-word s h (block v + k) (omega (arith, h .few)))
       (λ i n e. and-true (private i n) (le-leb 0 (32 * 0 + i) (omega arith)))
 
   -- a line that is set is a PPI's
@@ -180,14 +127,14 @@ module _ (s : List ℕ) (h : Ready s) where
 
       go : Dec (i < 16) → 16 ≤ 32 * 0 + i
       go (yes r) =
-          absurd (not-both (bit 0xffff0000 i) (fits-bit (word s (block v + 4)) 0xffff0000 i (block-word v 4 l (omega arith)) e)
+          absurd (not-both (bit 0xffff0000 i) (fits-bit (word s (block v + 4)) 0xffff0000 i (block-word s h v 4 l (omega arith)) e)
           (not-true (bit 0xffff0000 i) (below-at (λ j. not (bit 0xffff0000 j)) 16 low16 i r)))
       go (no r) = omega arith
 
   pub reads-private-lines : (v : ℕ) → v < vcpus s → readFlags s (Frame v) 4 16 Flag 0 ≡ word s (block v + 4)
   unfolding has seenBy
   reads-private-lines v l =
-      reads-word (Frame v) 4 16 0 (fits-word (block v + 4) (omega (arith, h .few))) (λ i n e. and-true (private i n) (line-ppi v l i n e))
+      reads-word (Frame v) 4 16 0 (fits-word s h (block v + 4) (omega (arith, h .few))) (λ i n e. and-true (private i n) (line-ppi v l i n e))
 
   -- ---- what a word of four priorities reads
 
@@ -214,7 +161,7 @@ module _ (s : List ℕ) (h : Ready s) where
   reads-spi-priority w j q l =
       let b : bank 0 w + 5 + j ≡ 256 + 16 * w + (5 + j) = rw (bank-at 0 w (q .low)) (omega arith) in
       let top : w < 32 = omega (arith, q .high, h .counted .most) in
-      reads-four Distributor w j l (rw b (fits-word (256 + 16 * w + (5 + j)) (omega arith)))
+      reads-four Distributor w j l (rw b (fits-word s h (256 + 16 * w + (5 + j)) (omega arith)))
       (λ i m e. let f : 4 * (8 * w + j) + i / 8 ≡ 32 * w + 4 * j + i / 8 = omega arith in rw f (priority-exists w j i q l m (rw b at e)))
       ∙ rw b
 
@@ -223,7 +170,7 @@ module _ (s : List ℕ) (h : Ready s) where
   reads-private-priority v j l m =
       let z : 8 * 0 + j ≡ j = omega arith in
       let b : block v + 5 + j ≡ block v + (5 + j) = omega arith in
-      rw z at (reads-four (Frame v) 0 j m (rw b (fits-word (block v + (5 + j)) (omega (arith, h .few))))
+      rw z at (reads-four (Frame v) 0 j m (rw b (fits-word s h (block v + (5 + j)) (omega (arith, h .few))))
       (λ i n e. lt-ltb (4 * (8 * 0 + j) + i / 8) 32 (omega arith)))
       ∙ rw b
 

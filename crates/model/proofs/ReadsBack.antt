@@ -24,14 +24,15 @@ use Rattle.model.specs.declared.View.{View}
 use Rattle.model.specs.declared.View.the-variants.{Distributor, Frame}
 use Rattle.model.specs.declared.Rule.{Rule}
 use Rattle.model.specs.declared.Item.{Item}
-use Rattle.model.proofs.Bits.{gather-lt, bit-gather}
+use Rattle.model.proofs.Bits.{gather-lt, bit-gather, bit-below}
 use Rattle.model.proofs.Tests.{both, below-at}
 use Rattle.model.proofs.Within.{fits-bit, bits-fit}
 use Rattle.model.proofs.Soundness.{Ready, ready, ready-sound, stopped-mark, stopped-running, running-stopped, open-vcpu, close-vcpu}
-use Rattle.model.proofs.Readings.{SpiWord, bit-below, bank-at, flag-bit, priority-bit}
-use Rattle.model.proofs.Listed.{Listed, groups, enables, latches, actives, Stored, pmr, ctlr, bpr0, bpr1, ap0r, ap1r, igrpen0, igrpen1, control, status, spi-flags, spi-lines, spi-priority, spi-config, spi-route, vcpu-status, vcpu-flags, vcpu-lines, vcpu-priority, vcpu-system, family}
+use Rattle.model.proofs.Masks.{route-bits, header-bits, SpiWord, block-is, bank-is}
+use Rattle.model.proofs.Readings.{bank-at, flag-bit, priority-bit}
+use Rattle.model.proofs.Listed.{Listed, groups, enables, latches, actives, Stored, pmr, ctlr, ap0r, ap1r, igrpen0, igrpen1, control, status, spi-flags, spi-lines, spi-priority, spi-config, spi-route, vcpu-status, vcpu-flags, vcpu-lines, vcpu-priority, vcpu-system, family, bpr0, bpr1}
 use Rattle.model.proofs.Places.{storedAt, plainOf, placeOf, namedBy, names-item, reads-place}
-use Rattle.model.proofs.Cover.{route-bits, entry-there, header-bits, block-bits, bank-bits, last-bits, carried}
+use Rattle.model.proofs.Cover.{carried}
 use Rattle.model.proofs.Restores.{fresh-ready, fresh-stopped}
 use Rattle.model.proofs.Recorded.{value-readable}
 
@@ -231,20 +232,9 @@ module _ (s : List ℕ) (h : Ready s) where
 
   -- ---- the bits that may stand in a word
 
-  block-is : (v j : ℕ) → v < vcpus s → j < 32 → usedBits (count s) (vcpus s) (block v + j) ≡ getD blockBits j 0
-  block-is v j l m = block-bits (count s) (vcpus s) v j (omega (arith, h .few)) m ∙ entry-there (ltb v (vcpus s)) blockBits j (lt-ltb v (vcpus s) l)
-
-  bank-bit : (w j i : ℕ) → SpiWord s w → j < 16 → bit (getD bankBits j 0) i ≡ true → (w ≡ 31 → bit (getD lastBankBits j 0) i ≡ true)
+  may-bit : (w j i : ℕ) → SpiWord s w → j < 16 → bit (getD bankBits j 0) i ≡ true → (w ≡ 31 → bit (getD lastBankBits j 0) i ≡ true)
       → bit (usedBits (count s) (vcpus s) (256 + 16 * w + j)) i ≡ true
-  bank-bit w j i q l a b = go (decLt w 31)
-    where
-      go : Dec (w < 31) → bit (usedBits (count s) (vcpus s) (256 + 16 * w + j)) i ≡ true
-      go (yes r) =
-          rw (bank-bits (count s) (vcpus s) w j (q .low) r l, entry-there (ltb (32 * w) (count s)) bankBits j (lt-ltb (32 * w) (count s) (omega (arith, q .high)))) a
-      go (no r) =
-          let e : w ≡ 31 = omega (arith, q .high, h .counted .most) in
-          let p : 256 + 16 * w + j ≡ 752 + j = omega arith in
-          rw (p, last-bits (count s) (vcpus s) j l, entry-there (ltb 992 (count s)) lastBankBits j (lt-ltb 992 (count s) (omega (arith, q .high)))) (b e)
+  may-bit w j i q l a b = bank-is s h (λ x. bit x i ≡ true) w j q l (λ r. a) b
 
   -- an SPI that exists
   below-1020 : (id : ℕ) → isSpi s id ≡ true → id < 1020
@@ -253,18 +243,18 @@ module _ (s : List ℕ) (h : Ready s) where
 
   flag-may : (w k i : ℕ) → SpiWord s w → k < 5 → i < 32 → isSpi s (32 * w + i) ≡ true → bit (usedBits (count s) (vcpus s) (256 + 16 * w + k)) i ≡ true
   flag-may w k i q l m e =
-      bank-bit w k i q (omega arith) (below-at (bit (getD bankBits k 0)) 32 (below-at _ 5 bank-flags k l) i m)
+      may-bit w k i q (omega arith) (below-at (bit (getD bankBits k 0)) 32 (below-at _ 5 bank-flags k l) i m)
       (λ z. below-at (bit (getD lastBankBits k 0)) 28 (below-at _ 5 last-flags k l) i (omega (arith, below-1020 (32 * w + i) e)))
 
   priority-may : (w j i : ℕ) → SpiWord s w → j < 8 → i < 32 → isSpi s (4 * (8 * w + j) + i / 8) ≡ true → leb 3 (i % 8) ≡ true
       → bit (usedBits (count s) (vcpus s) (256 + 16 * w + (5 + j))) i ≡ true
   priority-may w j i q l m e b =
-      bank-bit w (5 + j) i q (omega arith) (eighth (getD bankBits (5 + j) 0) i (below-at (λ k. eighths (getD bankBits (5 + k) 0)) 8 bank-eighths j l) m b)
+      may-bit w (5 + j) i q (omega arith) (eighth (getD bankBits (5 + j) 0) i (below-at (λ k. eighths (getD bankBits (5 + k) 0)) 8 bank-eighths j l) m b)
       (λ z. eighth (getD lastBankBits (5 + j) 0) i (below-at (λ k. eighths (getD lastBankBits (5 + k) 0)) 7 last-eighths j (omega (arith, below-1020 (4 * (8 * w + j) + i / 8) e))) m b)
 
   edge-may : (w j i : ℕ) → SpiWord s w → j < 2 → i < 16 → isSpi s (16 * (2 * w + j) + i) ≡ true → bit (usedBits (count s) (vcpus s) (256 + 16 * w + (13 + j))) i ≡ true
   edge-may w j i q l m e =
-      bank-bit w (13 + j) i q (omega arith) (below-at (bit (getD bankBits (13 + j) 0)) 16 (below-at (λ k. allBelow (bit (getD bankBits (13 + k) 0)) 16) 2 bank-edges j l) i m)
+      may-bit w (13 + j) i q (omega arith) (below-at (bit (getD bankBits (13 + j) 0)) 16 (below-at (λ k. allBelow (bit (getD bankBits (13 + k) 0)) 16) 2 bank-edges j l) i m)
       (λ z. rw (lt-ltb (16 * j + i) 28 (omega (arith, below-1020 (16 * (2 * w + j) + i) e)))
       at (below-at (λ n. cond (ltb (16 * j + n) 28) (bit (getD lastBankBits (13 + j) 0) n) true) 16
       (below-at (λ k. allBelow (λ n. cond (ltb (16 * k + n) 28) (bit (getD lastBankBits (13 + k) 0) n) true) 16) 2 last-edges j l) i m))
@@ -331,7 +321,7 @@ module _ (s : List ℕ) (h : Ready s) where
   stores-block v j w l a b f = record {
     stored = w;
     state = refl;
-    may = block-store s h v j w l b (rw (block-is v j l (b .small)) f);
+    may = block-store s h v j w l b (rw (block-is s h v j l (b .small)) f);
     idle = λ u k e. omega (arith, b .small);
   }
 
@@ -354,7 +344,7 @@ module _ (s : List ℕ) (h : Ready s) where
   unfolding seenBy
   put-private-flags v k r value l m =
       stores-flags (Frame v) k 0 0 (block v + k) r value (in-block v k l (omega arith)) refl (λ i n e t.
-      rw (block-is v k l (omega arith)) (below-at (bit (getD blockBits k 0)) 32 (below-at (λ j. allBelow (bit (getD blockBits j 0)) 32) 4 test k m) i n))
+      rw (block-is s h v k l (omega arith)) (below-at (bit (getD blockBits k 0)) 32 (below-at (λ j. allBelow (bit (getD blockBits j 0)) 32) 4 test k m) i n))
     where
       test : allBelow (λ j. allBelow (bit (getD blockBits j 0)) 32) 4 ≡ true
       test = unfold allBelow bit in refl
@@ -363,7 +353,7 @@ module _ (s : List ℕ) (h : Ready s) where
   unfolding seenBy
   put-private-lines v r value l =
       stores-flags (Frame v) 4 16 0 (block v + 4) r value (in-block v 4 l (omega arith)) refl (λ i n e t.
-      rw (block-is v 4 l (omega arith)) (rw t at (below-at (λ j. cond (leb 16 (32 * 0 + j)) (bit 0xffff0000 j) true) 32 test i n)))
+      rw (block-is s h v 4 l (omega arith)) (rw t at (below-at (λ j. cond (leb 16 (32 * 0 + j)) (bit 0xffff0000 j) true) 32 test i n)))
     where
       test : allBelow (λ j. cond (leb 16 (32 * 0 + j)) (bit 0xffff0000 j) true) 32 ≡ true
       test = unfold allBelow bit in refl
@@ -374,7 +364,7 @@ module _ (s : List ℕ) (h : Ready s) where
       let z : 8 * 0 + j ≡ j = omega arith in
       let b : block v + 5 + j ≡ block v + (5 + j) = omega arith in
       rw z at (stores-priority (Frame v) meant 0 j (block v + (5 + j)) value m (in-block v (5 + j) l (omega arith)) b (λ i n e t.
-      rw (block-is v (5 + j) l (omega arith)) (eighth (getD blockBits (5 + j) 0) i (below-at (λ k. eighths (getD blockBits (5 + k) 0)) 8 block-eighths j m) n t)))
+      rw (block-is s h v (5 + j) l (omega arith)) (eighth (getD blockBits (5 + j) 0) i (below-at (λ k. eighths (getD blockBits (5 + k) 0)) 8 block-eighths j m) n t)))
 
   pub put-system : (v : ℕ) (p : Stored) (x : ℕ) → v < vcpus s → Leaves s (block v + storedAt p) (plainWrite s v (plainOf p) x)
   unfolding plainWrite

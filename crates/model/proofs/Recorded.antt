@@ -20,7 +20,6 @@ use Rattle.model.specs.Demands.{Stopped, Fresh, Alike, ByRecord}
 use Rattle.model.proofs.Tests.{and-true}
 use Rattle.model.proofs.Numbers.{decode-encode}
 use Rattle.model.proofs.Soundness.{Ready, ready, stopped-mark}
-use Rattle.model.proofs.Readings.{fits-word}
 use Rattle.model.proofs.Listed.{Listed, family, member}
 use Rattle.model.proofs.Places.{placeOf, shown, shapeOf, namedBy, names-item, reads-place, one-place}
 use Rattle.model.proofs.Cover.{shows, carried, place-inside}
@@ -28,6 +27,7 @@ use Rattle.model.proofs.Mixed.{Between, between-start, between-put, mix
 use Rattle.model.proofs.Asked.{value-taken}
 use Rattle.model.proofs.Refused.{none-of, tests-next, is-granted}
 use Rattle.model.proofs.Restores.{fresh-ready, fresh-stopped, item-put, all-agree}
+use Rattle.model.proofs.Masks.{fits-word}
 
 -- ---- devices of the same set-up have the same entries
 

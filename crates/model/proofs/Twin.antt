@@ -20,9 +20,9 @@ use Rattle.model.proofs.Tests.{and-true, every-all, below-all}
 use Rattle.model.proofs.Within.{fits-within, none-within}
 use Rattle.model.proofs.Soundness.{open-sound, Ready, ready, stopped-mark, open-vcpu, close-vcpu}
 use Rattle.model.proofs.Fresh.{fresh-sound, all-ones}
-use Rattle.model.proofs.Readings.{fits-word, block-word}
 use Rattle.model.proofs.Listed.{family}
 use Rattle.model.proofs.Asked.{get-answers}
+use Rattle.model.proofs.Masks.{fits-word, block-word}
 
 -- ---- a list of n numbers by their places
 

@@ -7,7 +7,7 @@ use lib.IntN.{ℤ, pos, negsuc}
 use lib.ListN.{replicate, take}
 use Rattle.model.specs.Record.{groupsOf, encode}
 use Rattle.model.specs.Calls.{Call, make, addVcpu, setRunning, changeLine, querySignal, readDistributor, writeDistributor, readFrame, readSystem, writeSystem, getAttribute, setAttribute, save, restore}
-use Rattle.model.proofs.Rows.{Row, answer, hands, keeps, same, unmet}
+use Rattle.model.proofs.Rows.{Row, hands, keeps, same, unmet, answer}
 
 -- ---- short names for what the rows ask
 
