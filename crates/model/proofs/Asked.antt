@@ -21,7 +21,7 @@ use Rattle.model.specs.declared.RegisterGroup.{RegisterGroup}
 use Rattle.model.specs.declared.RegisterGroup.the-variants.{Distributor, Redistributor, Interface, Lines}
 use Rattle.model.specs.declared.AttributeGroup.the-variants.{Registers}
 use Rattle.model.proofs.Tests.{and-true}
-use Rattle.model.proofs.Soundness.{Ready, ready, stopped-mark}
+use Rattle.model.proofs.Soundness.{stopped-ready, Ready}
 use Rattle.model.proofs.Refused.{passed, none-of, tests-next, fault-first, IsGranted, is-granted, every-call, errno-positive}
 use Rattle.model.proofs.Listed.{Listed, groups, enables, latches, actives, pmr, ctlr, ap0r, ap1r, igrpen0, igrpen1, encodingOf, control, status, spi-flags, spi-lines, spi-priority, spi-config, spi-route, vcpu-status, vcpu-flags, vcpu-lines, vcpu-priority, vcpu-system, bpr0, bpr1}
 use Rattle.model.proofs.Places.{small-encoding, placeOf, shown, shapeOf, namedBy, index-of, vcpu-parts, names-item}
@@ -194,7 +194,7 @@ get-answers s hs {a} l = is-granted c s grants .answer ∙ ap pos (rw (e, ← i)
     c = getAttribute (a .group) (a .number)
 
     h : Ready s
-    h = ready s (hs .is-sound) (stopped-mark s (hs .is-stopped))
+    h = stopped-ready s hs
 
     e : groupOf (a .group) ≡ Registers (groupFor l)
     e = group-is l

@@ -1,7 +1,6 @@
 -- The places of the listed attributes cover every word that may differ between two sound, stopped devices of equal set-up: the listed values decide the state.
-use Prim.Native.Nat.{ℕ, zero, suc, _+_, _*_, _-_, _/_, _%_, _^_, _≤_, _<_, min}
+use Prim.Native.Nat.{ℕ, zero, suc, _+_, _*_, _-_, _/_, _%_, _^_, _≤_, _<_}
 use mathlib.Core.Path.{_≡_, refl, sym, ap, _∙_, subst}
-use mathlib.Core.Bool.{Bool, true, false, cond, _&&_}
 use mathlib.Core.List.{List, List·Memᴰ}
 use mathlib.Core.Logic.{_⊎_, inl, inr, ⊎-elim}
 use native.Mathlib.Decide.{ℕ-discrete, decLt}
@@ -10,14 +9,14 @@ use borrow.Author.Tests.{lt-ltb, le-ltb}
 use lib.Dec.{ltb}
 use lib.ListN.{getD, List·getD-eq-default}
 use lib.Seq.{ext-getD}
-use Rattle.model.specs.Layout.{stateLength, word, count, vcpus, block, running, routeAt}
-use Rattle.model.specs.Sound.{fits, usedBits, entry, headerBits, blockBits, bankBits, lastBankBits}
+use Rattle.model.specs.Layout.{stateLength, word, count, vcpus, block, running}
+use Rattle.model.specs.Sound.{usedBits, entry, headerBits, blockBits, bankBits, lastBankBits}
 use Rattle.model.specs.Attributes.{Attribute, attr, itemOf, itemRead}
 use Rattle.model.specs.Record.{listed, ofVcpu}
 use Rattle.model.specs.declared.Item.{Item}
 use Rattle.model.specs.Demands.{Stopped, Alike}
 use Rattle.model.proofs.Within.{fits-lt, fits-le, fits-none}
-use Rattle.model.proofs.Soundness.{Ready, ready, stopped-mark, stopped-running, open-vcpu}
+use Rattle.model.proofs.Soundness.{stopped-ready, Ready, stopped-running, open-vcpu}
 use Rattle.model.proofs.Bits.{gather-lt}
 use Rattle.model.proofs.Masks.{entry-there, entry-absent, header-bits, block-bits, bank-bits, last-bits, route-none, SpiWord, header-word, block-word, bank-is}
 use Rattle.model.proofs.Readings.{spread}
@@ -284,10 +283,10 @@ listed-decide s t hs ht same reads =
     ext-getD 0 t s (rt .size ∙ sym (rs .size)) (λ p l. word-at p (omega (arith, rt .size)))
   where
     rs : Ready s
-    rs = ready s (hs .is-sound) (stopped-mark s (hs .is-stopped))
+    rs = stopped-ready s hs
 
     rt : Ready t
-    rt = ready t (ht .is-sound) (stopped-mark t (ht .is-stopped))
+    rt = stopped-ready t ht
 
     idle : (v : ℕ) → v < vcpus s → running t v ≡ running s v
     idle v l = stopped-running t (ht .is-stopped) v (rw (same .same-number) l) ∙ sym (stopped-running s (hs .is-stopped) v l)

@@ -14,7 +14,7 @@ use Rattle.model.specs.Layout.{stateLength, word, initialised, count, vc
 use Rattle.model.specs.Sound.{headerBits, blockBits, freshHeaderBits, freshBlockBits, entry, usedBits, freshBits, allowedBits, fits, wordOk, isCount, setup, vcpuOk, sound, fresh}
 use Rattle.model.specs.Calls.{made, initialisedNext}
 use Rattle.model.proofs.Tests.{both, and-true, or-right, every-at, every-all, below-at, below-all}
-use Rattle.model.proofs.Within.{fits-none, fits-within, bits-fit, none-within, wider}
+use Rattle.model.proofs.Within.{fits-none, bits-fit, zero-fits, wider}
 use Rattle.model.proofs.Soundness.{Sound, open-sound, close-sound, setup-vcpus, open-vcpu, close-vcpu, is-count}
 
 -- just made: all zero
@@ -38,7 +38,7 @@ unfolding freshBits usedBits entry
 fresh-wider c n k w e = go (decLt k 16) (decLt k 272) (decLt ((k - 16) / 32) n)
   where
     none : (m : ℕ) → w ≡ 0 → fits w m ≡ true
-    none m z = rw z (fits-within 0 m ∙ none-within 32 m)
+    none m z = rw z (zero-fits m)
 
     go : Dec (k < 16) → Dec (k < 272) → Dec ((k - 16) / 32 < n) → fits w (usedBits c n k) ≡ true
     go (yes a) d2 d3 = rw (lt-ltb k 16 a) (wider w (getD freshHeaderBits k 0) (getD headerBits k 0) (rw (lt-ltb k 16 a) at e) (below-at _ 16 header-wider k a))

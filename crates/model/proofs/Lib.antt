@@ -3,6 +3,7 @@ pub mod Tests
 pub mod Bits
 pub mod Within
 pub mod Soundness
+pub mod Affinities
 pub mod Fresh
 pub mod Refused
 pub mod Decode
@@ -21,7 +22,7 @@ pub mod Asked
 pub mod Restores
 pub mod Recorded
 pub mod ReadsBack
-pub mod Twin
+pub mod Premises
 pub mod Demand
 pub mod Rows
 pub mod Worked

@@ -1,7 +1,7 @@
 -- The listed attributes by their families, and that these are exactly the members of `listed`.
 use Prim.Native.Nat.{ℕ, zero, suc, _+_, _*_, _≤_, _<_, min}
-use mathlib.Core.Path.{_≡_, refl, sym, subst}
-use mathlib.Core.List.{List, [], _∷_, _++_, List·Memᴰ, List·Memᴰ·head, List·Memᴰ·tail, List·Memᴰ·not-nil, List·Memᴰ·append-cases, Memᴰ·append-left, Memᴰ·append-right}
+use mathlib.Core.Path.{ap, _≡_, refl, sym, subst}
+use mathlib.Core.List.{map, List, [], _∷_, _++_, List·Memᴰ, List·Memᴰ·head, List·Memᴰ·tail, List·Memᴰ·not-nil, List·Memᴰ·append-cases, Memᴰ·append-left, Memᴰ·append-right}
 use mathlib.Core.Logic.{⊎-elim}
 use native.Mathlib.Decide.{ℕ-discrete}
 use native.Mathlib.Omega.{arith}
@@ -78,6 +78,12 @@ mem-each f b (suc k) {a} m = ⊎-elim (λ q. record { number = b; low = omega ar
   where
     later : Block f (suc b) k a → Block f b (suc k) a
     later r = record { number = r .number; low = omega (arith, r .low); high = omega (arith, r .high); there = r .there }
+
+-- what is in a list is, through f, in the list of what f gives
+pub mem-map {ℓ ℓ′} : {A : Type ℓ} {B : Type ℓ′} (f : A → B) (l : List A) {a : A} → List·Memᴰ a l → List·Memᴰ (f a) (map f l)
+mem-map f [] m = absurd (List·Memᴰ·not-nil m)
+mem-map f (x ∷ l) (List·Memᴰ·head e) = List·Memᴰ·head (ap f e)
+mem-map f (x ∷ l) (List·Memᴰ·tail m) = List·Memᴰ·tail (mem-map f l m)
 
 -- a block of one
 single : {a b : Attribute} → List·Memᴰ a (b ∷ []) → a ≡ b

@@ -30,6 +30,22 @@ between-put f s t p l b = record { size = length-set t p (word f p) ∙ b .size;
     go k m (yes e) = inl (rw e (getD-set-same t p (word f p) 0 (omega (arith, b .size))))
     go k m (no e) = rw (getD-set-other t p k (word f p) 0 e) (b .each k m)
 
+-- the word at p is f's; it is so where it was stored, and stays so where another word of f is stored
+unfoldable pub Agrees : List ℕ → ℕ → List ℕ → Type 0
+Agrees f p t = word t p ≡ word f p
+
+pub agrees-put : (f t : List ℕ) (p : ℕ) → p < stateLength → length t ≡ stateLength → Agrees f p (set t p (word f p))
+unfolding Agrees
+agrees-put f t p l e = getD-set-same t p (word f p) 0 (omega arith)
+
+pub agrees-kept : (f t : List ℕ) (p q : ℕ) → q < stateLength → length t ≡ stateLength → Agrees f p t → Agrees f p (set t q (word f q))
+unfolding Agrees
+agrees-kept f t p q l e h = go (ℕ-discrete p q)
+  where
+    go : Dec (p ≡ q) → word (set t q (word f q)) p ≡ word f p
+    go (yes z) = rw z (agrees-put f t q l e)
+    go (no z) = getD-set-other t q p (word f q) 0 z ∙ h
+
 module _ (f s t : List ℕ) (hf : Ready f) (hs : Ready s) (same : Alike f s) (b : Between f s t) where
   -- what holds of a word in both holds of it in t
   in-both {ℓ} : (P : ℕ → Type ℓ) (k : ℕ) → k < stateLength → P (word f k) → P (word s k) → P (word t k)

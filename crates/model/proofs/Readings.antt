@@ -1,26 +1,24 @@
 -- What each register reads by attribute, as the one word of the state that it shows: in a sound, initialised device.
 use Prim.Native.Nat.{ℕ, zero, suc, _+_, _*_, _-_, _/_, _%_, _^_, _≤_, _<_, min}
-use mathlib.Core.Path.{_≡_, refl, sym, ap, _∙_}
+use mathlib.Core.Path.{_≡_, refl, ap, _∙_}
 use mathlib.Core.Bool.{Bool, true, false, not, _&&_}
 use mathlib.Core.List.{List}
-use native.Mathlib.Nat.{div-eq-of-lt}
 use native.Mathlib.Decide.{decLt}
 use native.Mathlib.Omega.{arith}
 use borrow.Author.Tests.{lt-ltb, leb-true, le-leb, not-true}
 use lib.Dec.{eqb, leb}
 use lib.ListN.{getD}
-use lib.Pow.{shr-shr, pow-mono}
 use Rattle.model.specs.Words.{bit, gather, allBelow}
-use Rattle.model.specs.Layout.{stateLength, word, count, vcpus, block, bank, routeAt}
+use Rattle.model.specs.Layout.{word, count, vcpus, block, bank, routeAt}
 use Rattle.model.specs.Interrupts.{isPrivate, isSpi, flag, edge, priority}
-use Rattle.model.specs.Sound.{fits, usedBits, entry, blockBits, lastBankBits}
+use Rattle.model.specs.Sound.{lastBankBits}
 use Rattle.model.specs.Registers.{has, seenBy, shows, readFlags, readPriority, readConfig, readRoute}
 use Rattle.model.specs.declared.View.{View}
 use Rattle.model.specs.declared.View.the-variants.{Distributor, Frame}
 use Rattle.model.specs.declared.Shown.the-variants.{Flag}
 use Rattle.model.proofs.Bits.{gather-same, bit-mod, bit-shift, bit-below, gather-passed}
 use Rattle.model.proofs.Tests.{and-true, and-implied, not-both, below-at}
-use Rattle.model.proofs.Within.{bit-none, fits-lt, fits-bit, fits-none}
+use Rattle.model.proofs.Within.{bit-none, fits-bit}
 use Rattle.model.proofs.Soundness.{Ready}
 use Rattle.model.proofs.Masks.{SpiWord, fits-word, block-word, bank-bit}
 

@@ -4,7 +4,7 @@ use mathlib.Core.Path.{_≡_, refl, sym, ap, _∙_, subst}
 use mathlib.Core.Bool.{Bool, true, false, cond, _&&_}
 use mathlib.Core.List.{List, List·Memᴰ}
 use mathlib.Core.Logic.{_⊎_, inl, inr, ⊎-elim, _↔_}
-use native.Mathlib.Decide.{ℕ-discrete, decLt}
+use native.Mathlib.Decide.{ℕ-discrete}
 use native.Mathlib.Omega.{arith}
 use borrow.Author.Tests.{eqb-true, lt-ltb, ltb-true, le-leb}
 use lib.Dec.{ltb, leb}
@@ -27,7 +27,7 @@ use Rattle.model.specs.declared.Item.{Item}
 use Rattle.model.proofs.Bits.{gather-lt, bit-gather, bit-below}
 use Rattle.model.proofs.Tests.{both, below-at}
 use Rattle.model.proofs.Within.{fits-bit, bits-fit}
-use Rattle.model.proofs.Soundness.{Ready, ready, ready-sound, stopped-mark, stopped-running, running-stopped, open-vcpu, close-vcpu}
+use Rattle.model.proofs.Soundness.{stopped-ready, Ready, ready-sound, stopped-running, running-stopped, open-vcpu, close-vcpu}
 use Rattle.model.proofs.Masks.{route-bits, header-bits, SpiWord, block-is, bank-is}
 use Rattle.model.proofs.Readings.{bank-at, flag-bit, priority-bit}
 use Rattle.model.proofs.Listed.{Listed, groups, enables, latches, actives, Stored, pmr, ctlr, ap0r, ap1r, igrpen0, igrpen1, control, status, spi-flags, spi-lines, spi-priority, spi-config, spi-route, vcpu-status, vcpu-flags, vcpu-lines, vcpu-priority, vcpu-system, family, bpr0, bpr1}
@@ -455,7 +455,7 @@ module _ (t : List ℕ) (ht : Fresh t) {a : Attribute} (m : Listed t a) (v : ℕ
       let d = r .0 in
       let same = alike-back t d (r .2) in
       let c = carried t d (r .2) m in
-      let hd = ready d (r .1 .is-sound) (stopped-mark d (r .1 .is-stopped)) in
+      let hd = stopped-ready d (r .1) in
       rw (sym (reads-place d hd (c .there)) ∙ r .3) at (value-readable d t (r .1) ht same (c .there))
 
 pub readable-exactly : (t : List ℕ) → Fresh t → (a : Attribute) → List·Memᴰ a (listed t) → (v : ℕ) → (readable t (attributeOf a) v ≡ true) ↔ ReadsSo t a v

@@ -3,12 +3,11 @@ use Prim.Native.Nat.{ℕ, zero, suc, _+_, _^_, _≤_, _<_}
 use mathlib.Core.Path.{_≡_, refl, sym, ap, ap₂, _∙_}
 use mathlib.Core.Bool.{true}
 use mathlib.Core.List.{List, [], _∷_, _++_, map, List·Memᴰ, List·Memᴰ·head, List·Memᴰ·tail, List·Memᴰ·not-nil, Memᴰ·append-right}
-use native.Mathlib.Decide.{ℕ-discrete}
 use native.Mathlib.Omega.{arith}
 use borrow.Author.Tests.{eq-eqb, le-leb}
 use lib.IntN.{pos}
 use lib.ListN.{length, set, drop}
-use lib.Seq.{getD-set-same, getD-set-other, take-append-seam}
+use lib.Seq.{getD-set-same, take-append-seam}
 use Rattle.model.specs.Words.{each}
 use Rattle.model.specs.Layout.{word, vcpus, block, affinity}
 use Rattle.model.specs.Attributes.{Attribute, itemOf, itemRead, itemWrite}
@@ -19,11 +18,11 @@ use Rattle.model.specs.declared.Item.{Item}
 use Rattle.model.specs.Demands.{Stopped, Fresh, Alike, ByRecord}
 use Rattle.model.proofs.Tests.{and-true}
 use Rattle.model.proofs.Numbers.{decode-encode}
-use Rattle.model.proofs.Soundness.{Ready, ready, stopped-mark}
-use Rattle.model.proofs.Listed.{Listed, family, member}
+use Rattle.model.proofs.Soundness.{stopped-ready, Ready}
+use Rattle.model.proofs.Listed.{mem-map, Listed, family, member}
 use Rattle.model.proofs.Places.{placeOf, shown, shapeOf, namedBy, names-item, reads-place, one-place}
 use Rattle.model.proofs.Cover.{shows, carried, place-inside}
-use Rattle.model.proofs.Mixed.{Between, between-start, between-put, mixed-alike, mixed-ready}
+use Rattle.model.proofs.Mixed.{Agrees, agrees-put, agrees-kept, Between, between-start, between-put, mixed-alike, mixed-ready}
 use Rattle.model.proofs.Asked.{value-taken}
 use Rattle.model.proofs.Refused.{none-of, tests-next, is-granted}
 use Rattle.model.proofs.Restores.{fresh-ready, fresh-stopped, item-put, all-agree}
@@ -97,7 +96,7 @@ good-entries f h = (
 
 module _ (from to : List ℕ) (hf : Stopped from) (ht : Fresh to) (same : Alike from to) where
   rf : Ready from
-  rf = ready from (hf .is-sound) (stopped-mark from (hf .is-stopped))
+  rf = stopped-ready from hf
 
   rt : Ready to
   rt = fresh-ready to ht
@@ -126,15 +125,12 @@ module _ (from to : List ℕ) (hf : Stopped from) (ht : Fresh to) (same : Alike 
       reads-here (set to p (word from p)) there l ∙ ap (shown (shapeOf l)) (getD-set-same to p (word from p) 0 (omega (arith, rt .size, place-inside from rf l))) in
       rw (names-here to start l, item-put from to hf ht same to start l, back) (and-true (value-taken from rf l) (eq-eqb (shown (shapeOf l) (word from p)) (shown (shapeOf l) (word from p)) refl))
 
-  Agrees : ℕ → List ℕ → Type 0
-  Agrees p s = word s p ≡ word from p
-
   -- what loading the values of some entries leaves
   record Loads (es : List Entry) (s t : List ℕ) : Type 0 where
     loaded : load to es (entryBytes from es) s ≡ done t
     between : Between from to t
-    kept : (p : ℕ) → Agrees p s → Agrees p t
-    stored : (a : Attribute) (l : Listed from a) → List·Memᴰ (attributeOf a) es → Agrees (placeOf l) t
+    kept : (p : ℕ) → Agrees from p s → Agrees from p t
+    stored : (a : Attribute) (l : Listed from a) → List·Memᴰ (attributeOf a) es → Agrees from (placeOf l) t
 
   -- one entry: its number is read back, is readable, and is put
   load-one : (e : Entry) (es : List Entry) (s u : List ℕ) → entryRead from e < 2 ^ 32 → readable to e (entryRead from e) ≡ true → entryPut s e (entryRead from e) ≡ u
@@ -161,7 +157,7 @@ module _ (from to : List ℕ) (hf : Stopped from) (ht : Fresh to) (same : Alike 
   loads (attributeOf c ∷ es) s g b = next-put (g .0) (loads es)
     where
       next-put : (l : Listed from c) → ((u : List ℕ) → All (Good from) es → Between from to u → (t : List ℕ) × Loads es u t) → (t : List ℕ) × Loads (attributeOf c ∷ es) s t
-      next-put l ih = (r .0, record { loaded = load-one (attributeOf c) es s u small can puts ∙ r .1 .loaded; between = r .1 .between; kept = λ p h. r .1 .kept p (keeps p (ℕ-discrete p (placeOf l)) h); stored = stores })
+      next-put l ih = (r .0, record { loaded = load-one (attributeOf c) es s u small can puts ∙ r .1 .loaded; between = r .1 .between; kept = λ p h. r .1 .kept p (agrees-kept from s p (placeOf l) (place-inside from rf l) (b .size) h); stored = stores })
         where
           w : ℕ
           w = word from (placeOf l)
@@ -184,26 +180,14 @@ module _ (from to : List ℕ) (hf : Stopped from) (ht : Fresh to) (same : Alike 
           r : (t : List ℕ) × Loads es u t
           r = ih u (g .1) (between-put from to s (placeOf l) (place-inside from rf l) b)
 
-          here : Agrees (placeOf l) u
-          here = unfold Agrees in (getD-set-same s (placeOf l) w 0 (omega (arith, b .size, place-inside from rf l)))
-
-          keeps : (p : ℕ) → Dec (p ≡ placeOf l) → Agrees p s → Agrees p u
-          keeps p (yes e) h = rw e here
-          keeps p (no e) h = unfold Agrees in (getD-set-other s (placeOf l) p w 0 e ∙ h)
-
-          stores : (a : Attribute) (m : Listed from a) → List·Memᴰ (attributeOf a) (attributeOf c ∷ es) → Agrees (placeOf m) (r .0)
+          stores : (a : Attribute) (m : Listed from a) → List·Memᴰ (attributeOf a) (attributeOf c ∷ es) → Agrees from (placeOf m) (r .0)
           stores a m (List·Memᴰ·tail q) = r .1 .stored a m q
-          stores a m (List·Memᴰ·head e) = let q : a ≡ c = cc in r .1 .kept (placeOf m) (rw (one-place from rf m l q) here)
+          stores a m (List·Memᴰ·head e) = let q : a ≡ c = cc in r .1 .kept (placeOf m) (rw (one-place from rf m l q) (agrees-put from s (placeOf l) (place-inside from rf l) (b .size)))
 
   -- every listed attribute is an entry
-  in-map : (a : Attribute) (l : List Attribute) → List·Memᴰ a l → List·Memᴰ (attributeOf a) (map attributeOf l)
-  in-map a [] m = absurd (List·Memᴰ·not-nil m)
-  in-map a (x ∷ l) (List·Memᴰ·head e) = List·Memᴰ·head (ap attributeOf e)
-  in-map a (x ∷ l) (List·Memᴰ·tail m) = List·Memᴰ·tail (in-map a l m)
-
   is-entry : (a : Attribute) → List·Memᴰ a (listed from) → List·Memᴰ (attributeOf a) (entries from)
   unfolding entries
-  is-entry a m = List·Memᴰ·tail (List·Memᴰ·tail (List·Memᴰ·tail (Memᴰ·append-right (each (λ v. header (affinity from v) ∷ []) 0 (vcpus from)) (in-map a (listed from) m))))
+  is-entry a m = List·Memᴰ·tail (List·Memᴰ·tail (List·Memᴰ·tail (Memᴰ·append-right (each (λ v. header (affinity from v) ∷ []) 0 (vcpus from)) (mem-map attributeOf (listed from) m))))
 
   pub loads-record : restored to (recordOf from) ≡ done from
   unfolding restored recordOf Agrees

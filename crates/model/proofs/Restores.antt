@@ -4,12 +4,11 @@ use mathlib.Core.Path.{_≡_, refl, sym, ap, _∙_, subst}
 use mathlib.Core.Bool.{true}
 use mathlib.Core.List.{List, [], _∷_, _++_, List·Memᴰ, List·Memᴰ·head, List·Memᴰ·tail, List·Memᴰ·not-nil}
 use mathlib.Core.Logic.{_⊎_, inl, inr, ⊎-elim}
-use native.Mathlib.Decide.{ℕ-discrete}
 use native.Mathlib.Omega.{arith}
 use borrow.Author.Tests.{eqb-true, lt-ltb, le-ltb}
 use lib.IntN.{pos, negsuc}
 use lib.ListN.{length, set, getD}
-use lib.Seq.{getD-set-same, getD-set-other, ext-getD}
+use lib.Seq.{ext-getD}
 use Rattle.model.specs.Words.{every}
 use Rattle.model.specs.Layout.{stateLength, word, initialised, vcpus, block, running, isInitialised}
 use Rattle.model.specs.Sound.{fresh, fits, freshBits, freshBlockBits, entry}
@@ -22,13 +21,13 @@ use Rattle.model.specs.declared.RegisterGroup.{RegisterGroup}
 use Rattle.model.specs.declared.AttributeGroup.the-variants.{Registers}
 use Rattle.model.proofs.Tests.{both, every-at}
 use Rattle.model.proofs.Within.{fits-none}
-use Rattle.model.proofs.Soundness.{Ready, ready, stopped-mark, stopped-running, running-stopped}
+use Rattle.model.proofs.Soundness.{stopped-ready, Ready, ready, stopped-running, running-stopped}
 use Rattle.model.proofs.Refused.{none-of, tests-next, is-granted, is-refused, every-call, negative-errno}
 use Rattle.model.proofs.Listed.{Listed, groups, enables, latches, actives, control, status, spi-flags, spi-lines, spi-priority, spi-config, spi-route, vcpu-status, vcpu-flags, vcpu-lines, vcpu-priority, vcpu-system, family, member}
 use Rattle.model.proofs.Places.{placeOf, shown, shapeOf, namedBy, names-item, reads-place}
 use Rattle.model.proofs.Cover.{Owned, each-owned, place-inside}
 use Rattle.model.proofs.Puts.{Puts, replaces, sets-clear, sets-same, ruleOf, put-item}
-use Rattle.model.proofs.Mixed.{Between, between-start, between-put, mixed-alike, mixed-ready, mixed-stopped}
+use Rattle.model.proofs.Mixed.{Agrees, agrees-put, agrees-kept, Between, between-start, between-put, mixed-alike, mixed-ready, mixed-stopped}
 use Rattle.model.proofs.Asked.{groupFor, group-is, same-item, same-known, value-taken, named-known, item-of, Answered, get-answered}
 
 -- ---- a fresh device
@@ -72,7 +71,7 @@ module _ (s : List ℕ) (h : Fresh s) where
 
 module _ (from to : List ℕ) (hf : Stopped from) (ht : Fresh to) (same : Alike from to) where
   rf : Ready from
-  rf = ready from (hf .is-sound) (stopped-mark from (hf .is-stopped))
+  rf = stopped-ready from hf
 
   rt : Ready to
   rt = fresh-ready to ht
@@ -159,9 +158,6 @@ module _ (from to : List ℕ) (hf : Stopped from) (ht : Fresh to) (same : Alike 
   refused-keeps : (c : Call) (s : List ℕ) (e : ℕ) → call c s .answer ≡ negsuc e → call c s .state ≡ s
   refused-keeps c s e r = let n = negative-errno c s e r in is-refused c s (n .0) (n .1) .state
 
-  Agrees : ℕ → List ℕ → Type 0
-  Agrees p s = word s p ≡ word from p
-
   -- each call of the list leaves the state as it is, or stores a word of the first device
   step : (s : List ℕ) → Between from to s → {c : Call} → Allowed from s c
       → (call c s .state ≡ s) ⊎ ((q : ℕ) × (q < stateLength) × (call c s .state ≡ set s q (word from q)))
@@ -172,37 +168,29 @@ module _ (from to : List ℕ) (hf : Stopped from) (ht : Fresh to) (same : Alike 
   step-between : (s : List ℕ) → Between from to s → {c : Call} → Allowed from s c → Between from to (call c s .state)
   step-between s b a = ⊎-elim (λ e. rw e b) (λ e. rw (e .2) (between-put from to s (e .0) (e .1) b)) (step s b a)
 
-  stored-agrees : (s : List ℕ) (p q : ℕ) → Between from to s → q < stateLength → Dec (p ≡ q) → Agrees p s → Agrees p (set s q (word from q))
-  unfolding Agrees
-  stored-agrees s p q b l (yes e) h = rw e (getD-set-same s q (word from q) 0 (omega (arith, b .size)))
-  stored-agrees s p q b l (no e) h = getD-set-other s q p (word from q) 0 e ∙ h
-
-  step-agrees : (s : List ℕ) (p : ℕ) → Between from to s → {c : Call} → Allowed from s c → Agrees p s → Agrees p (call c s .state)
-  step-agrees s p b a h = ⊎-elim (λ e. rw e h) (λ e. rw (e .2) (stored-agrees s p (e .0) b (e .1) (ℕ-discrete p (e .0)) h)) (step s b a)
+  step-agrees : (s : List ℕ) (p : ℕ) → Between from to s → {c : Call} → Allowed from s c → Agrees from p s → Agrees from p (call c s .state)
+  step-agrees s p b a h = ⊎-elim (λ e. rw e h) (λ e. rw (e .2) (agrees-kept from s p (e .0) (e .1) (b .size) h)) (step s b a)
 
   between-after : (cs : List Call) (s : List ℕ) → Restoring from s cs → Between from to s → Between from to (after cs s)
   unfolding after
   between-after [] s r b = b
   between-after (c ∷ cs) s (one a r) b = between-after cs (call c s .state) r (step-between s b a)
 
-  agrees-after : (cs : List Call) (s : List ℕ) (p : ℕ) → Restoring from s cs → Between from to s → Agrees p s → Agrees p (after cs s)
+  agrees-after : (cs : List Call) (s : List ℕ) (p : ℕ) → Restoring from s cs → Between from to s → Agrees from p s → Agrees from p (after cs s)
   unfolding after
   agrees-after [] s p r b h = h
   agrees-after (c ∷ cs) s p (one a r) b h = agrees-after cs (call c s .state) p r (step-between s b a) (step-agrees s p b a h)
 
   -- after its put, a listed attribute's word is the first device's
   put-agrees : (cs : List Call) (s : List ℕ) → Restoring from s cs → Between from to s → {a : Attribute} {c : Call} (l : Listed from a) → Put from a c
-      → List·Memᴰ c cs → Agrees (placeOf l) (after cs s)
+      → List·Memᴰ c cs → Agrees from (placeOf l) (after cs s)
   unfolding after
   put-agrees [] s r b l p m = absurd (List·Memᴰ·not-nil m)
   put-agrees (d ∷ cs) s (one x r) b {a} l p (List·Memᴰ·head e) =
-      agrees-after cs (call d s .state) (placeOf l) r (step-between s b x) (rw (here .state) here-agrees)
+      agrees-after cs (call d s .state) (placeOf l) r (step-between s b x) (rw (here .state) (agrees-put from s (placeOf l) (place-inside from rf l) (b .size)))
     where
       here : Stores d s (placeOf l)
       here = put-stores s b l (subst (Put from a) e p)
-
-      here-agrees : Agrees (placeOf l) (set s (placeOf l) (word from (placeOf l)))
-      here-agrees = unfold Agrees in getD-set-same s (placeOf l) (word from (placeOf l)) 0 (omega (arith, b .size, place-inside from rf l))
   put-agrees (d ∷ cs) s (one x r) b l p (List·Memᴰ·tail m) = put-agrees cs (call d s .state) r (step-between s b x) l p m
 
   -- a state between the two in which every listed word is the first device's is the first device's

@@ -11,6 +11,7 @@ use lib.ListN.{length}
 use Rattle.model.specs.Words.{every, allBelow}
 use Rattle.model.specs.Layout.{stateLength, mostVcpus, word, initialised, count, vcpus, bprAt, sgiEdgesAt, affinity, running}
 use Rattle.model.specs.Sound.{fits, usedBits, allowedBits, wordOk, isCount, setup, unused, vcpuOk, sound, stopped}
+use Rattle.model.specs.Demands.{Stopped}
 use Rattle.model.proofs.Tests.{both, and-true, either, or-right, every-at, every-all, below-at, below-all}
 
 pub record Sound (s : List ℕ) : Type 0 where
@@ -165,3 +166,6 @@ ready-sound s h =
 pub running-stopped : (s : List ℕ) → initialised s ≡ 1 → ((v : ℕ) → v < vcpus s → running s v ≡ 0) → stopped s ≡ true
 unfolding stopped
 running-stopped s i h = and-true (eq-eqb (initialised s) 1 i) (below-all (λ v. eqb (running s v) 0) (vcpus s) (λ v l. eq-eqb (running s v) 0 (h v l)))
+
+pub stopped-ready : (s : List ℕ) → Stopped s → Ready s
+stopped-ready s h = ready s (h .is-sound) (stopped-mark s (h .is-stopped))

@@ -38,6 +38,12 @@ pub implied : (a c : Bool) → (not a || c) ≡ true → a ≡ true → c ≡ tr
 implied true c e t = e
 implied false c e t = absurd (true≢false (sym t))
 
+-- two tests are equal where each holds if the other does
+pub same-test : (a b : Bool) → (a ≡ true → b ≡ true) → (b ≡ true → a ≡ true) → a ≡ b
+same-test true b f g = sym (f refl)
+same-test false true f g = g refl
+same-test false false f g = refl
+
 pub not-both : (a : Bool) → a ≡ true → a ≡ false → ⊥
 not-both a p q = true≢false (sym p ∙ q)
 

@@ -83,6 +83,9 @@ fits-within w m = step (eqb w 0) refl
     step true e = sym (rw (eqb-true w 0 e) (none-within 32 m))
     step false e = refl
 
+pub zero-fits : (m : ℕ) → fits 0 m ≡ true
+zero-fits m = fits-within 0 m ∙ none-within 32 m
+
 pub fits-lt : (w m : ℕ) → fits w m ≡ true → w < 2 ^ 32
 fits-lt w m e = within-lt 32 w m (sym (fits-within w m) ∙ e)
 

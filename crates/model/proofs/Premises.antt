@@ -2,7 +2,7 @@
 use Prim.Native.Nat.{ℕ, zero, suc, _+_, _-_, _/_, _%_, _<_}
 use mathlib.Core.Path.{_≡_, refl, ap, _∙_}
 use mathlib.Core.Bool.{true, cond}
-use mathlib.Core.List.{List, [], _∷_, map, List·Memᴰ, List·Memᴰ·head, List·Memᴰ·tail, List·Memᴰ·not-nil}
+use mathlib.Core.List.{List, [], _∷_, map, List·Memᴰ, List·Memᴰ·head, List·Memᴰ·tail}
 use native.Mathlib.Nat.{add-zero, zero-add}
 use native.Mathlib.Decide.{ℕ-discrete, decLt}
 use native.Mathlib.Omega.{arith}
@@ -17,10 +17,10 @@ use Rattle.model.specs.Record.{listed}
 use Rattle.model.specs.Calls.{Call, setAttribute, call}
 use Rattle.model.specs.Demands.{Stopped, Fresh, Alike, Put, puts, put, Restoring, none, one, Whole}
 use Rattle.model.proofs.Tests.{and-true, every-all, below-all}
-use Rattle.model.proofs.Within.{fits-within, none-within}
-use Rattle.model.proofs.Soundness.{open-sound, Ready, ready, stopped-mark, open-vcpu, close-vcpu}
+use Rattle.model.proofs.Within.{zero-fits}
+use Rattle.model.proofs.Soundness.{stopped-ready, open-sound, Ready, ready, stopped-mark, open-vcpu, close-vcpu}
 use Rattle.model.proofs.Fresh.{fresh-sound, all-ones}
-use Rattle.model.proofs.Listed.{family}
+use Rattle.model.proofs.Listed.{mem-map, family}
 use Rattle.model.proofs.Asked.{get-answers}
 use Rattle.model.proofs.Masks.{fits-word, block-word}
 
@@ -50,22 +50,22 @@ freshWord : List ℕ → ℕ → ℕ
 freshWord s k = cond (ltb k 3) (word s k) (cond (ltb k 16) 0 (cond (ltb k 272) (cond (ltb ((k - 16) / 32) (vcpus s)) (blockWord s ((k - 16) / 32) ((k - 16) % 32)) 0) 0))
 
 module _ (s : List ℕ) (h : Ready s) where
-  twin : List ℕ
-  twin = tabulate (freshWord s) 0 stateLength
+  freshState : List ℕ
+  freshState = tabulate (freshWord s) 0 stateLength
 
-  long : length twin ≡ stateLength
-  unfolding twin
+  long : length freshState ≡ stateLength
+  unfolding freshState
   long = tabulate-length (freshWord s) 0 stateLength
 
-  at : (k : ℕ) → k < stateLength → word twin k ≡ freshWord s k
-  unfolding twin
+  at : (k : ℕ) → k < stateLength → word freshState k ≡ freshWord s k
+  unfolding freshState
   at k l = tabulate-at (freshWord s) 0 stateLength k l ∙ ap (freshWord s) (zero-add k)
 
-  in-header : (k : ℕ) → k < 3 → word twin k ≡ word s k
+  in-header : (k : ℕ) → k < 3 → word freshState k ≡ word s k
   unfolding freshWord
   in-header k l = at k (omega arith) ∙ rw (lt-ltb k 3 l)
 
-  in-block : (v j : ℕ) → v < vcpus s → j < 32 → word twin (block v + j) ≡ blockWord s v j
+  in-block : (v j : ℕ) → v < vcpus s → j < 32 → word freshState (block v + j) ≡ blockWord s v j
   unfolding freshWord
   in-block v j l m =
       let d : (block v + j - 16) / 32 ≡ v = omega arith in
@@ -73,25 +73,22 @@ module _ (s : List ℕ) (h : Ready s) where
       at (block v + j) (omega (arith, h .few))
       ∙ rw (le-ltb (block v + j) 3 (omega arith), le-ltb (block v + j) 16 (omega arith), lt-ltb (block v + j) 272 (omega (arith, h .few)), d, lt-ltb v (vcpus s) l, r)
 
-  twin-alike : Alike s twin
+  is-alike : Alike s freshState
   unfolding blockWord
-  twin-alike = record {
+  is-alike = record {
     same-count = in-header 1 (omega arith);
     same-number = in-header 2 (omega arith);
     same-affinities = λ v l. in-block v 16 l (omega arith);
   }
 
-  twin-vcpu : (v : ℕ) → v < vcpus s → vcpuOk twin v ≡ true
+  each-vcpu : (v : ℕ) → v < vcpus s → vcpuOk freshState v ≡ true
   unfolding blockWord
-  twin-vcpu v l = close-vcpu twin v (record {
+  each-vcpu v l = close-vcpu freshState v (record {
     edges = in-block v 13 l (omega arith);
     bpr0 = rw (in-block v 21 l (omega arith)) (omega arith);
     bpr1 = rw (in-block v 22 l (omega arith)) (omega arith);
     distinct = λ u m. rw (in-block u 16 (omega arith) (omega arith), in-block v 16 l (omega arith)) (open-vcpu s v (h .each-vcpu v l) .distinct u m);
   })
-
-  zero-fits : (m : ℕ) → fits 0 m ≡ true
-  zero-fits m = fits-within 0 m ∙ none-within 32 m
 
   -- each word of a block is within the fresh masks
   block-fits : (v j : ℕ) → v < vcpus s → fits (blockWord s v j) (getD freshBlockBits j 0) ≡ true
@@ -105,9 +102,9 @@ module _ (s : List ℕ) (h : Ready s) where
       go (no a) (no b) (no c) (yes e) = rw e (unfold fits within in refl)
       go (no a) (no b) (no c) (no d) = rw (ne-eqb j 13 a, ne-eqb j 16 b, ne-eqb j 21 c, ne-eqb j 22 d) (zero-fits (getD freshBlockBits j 0))
 
-  twin-fits : (k : ℕ) → k < stateLength → fits (freshWord s k) (freshBits (vcpus s) k) ≡ true
+  word-fits : (k : ℕ) → k < stateLength → fits (freshWord s k) (freshBits (vcpus s) k) ≡ true
   unfolding freshWord freshBits entry
-  twin-fits k l = go (decLt k 3) (decLt k 16) (decLt k 272) (decLt ((k - 16) / 32) (vcpus s))
+  word-fits k l = go (decLt k 3) (decLt k 16) (decLt k 272) (decLt ((k - 16) / 32) (vcpus s))
     where
       header : (j : ℕ) → j < 3 → getD freshHeaderBits j 0 ≡ 0xffffffff
       header zero m = refl
@@ -123,27 +120,27 @@ module _ (s : List ℕ) (h : Ready s) where
       go (no a) (no b) (yes c) (no d) = rw (le-ltb k 3 (omega arith), le-ltb k 16 (omega arith), lt-ltb k 272 c, le-ltb ((k - 16) / 32) (vcpus s) (omega arith)) (zero-fits 0)
       go (no a) (no b) (no c) d4 = rw (le-ltb k 3 (omega arith), le-ltb k 16 (omega arith), le-ltb k 272 (omega arith)) (zero-fits 0)
 
-  is-fresh : fresh twin ≡ true
+  is-fresh : fresh freshState ≡ true
   unfolding fresh
   is-fresh =
-      and-true (eq-eqb (word twin 0) 1 (in-header 0 (omega arith) ∙ h .mark))
-      (rw (in-header 2 (omega arith)) (every-all (λ k w. fits w (freshBits (vcpus s) k)) twin (λ k l.
-      let m : k < stateLength = omega (arith, long) in rw (at k m) (twin-fits k m))))
+      and-true (eq-eqb (word freshState 0) 1 (in-header 0 (omega arith) ∙ h .mark))
+      (rw (in-header 2 (omega arith)) (every-all (λ k w. fits w (freshBits (vcpus s) k)) freshState (λ k l.
+      let m : k < stateLength = omega (arith, long) in rw (at k m) (word-fits k m))))
 
-pub fresh-twin : (s : List ℕ) → Stopped s → (t : List ℕ) × Fresh t × Alike s t
-fresh-twin s hs =
+pub fresh-alike : (s : List ℕ) → Stopped s → (t : List ℕ) × Fresh t × Alike s t
+fresh-alike s hs =
     let i = stopped-mark s (hs .is-stopped) in
     let h = ready s (hs .is-sound) i in
-    let t = twin s h in (
+    let t = freshState s h in (
       t,
       record {
         is-sound = fresh-sound t (long s h)
             (rw (in-header s h 0 (omega arith), in-header s h 1 (omega arith), in-header s h 2 (omega arith)) (open-sound s (hs .is-sound) .set-up))
-            (rw (in-header s h 2 (omega arith)) (below-all (vcpuOk t) (vcpus s) (twin-vcpu s h)))
+            (rw (in-header s h 2 (omega arith)) (below-all (vcpuOk t) (vcpus s) (each-vcpu s h)))
             (is-fresh s h);
         is-fresh = is-fresh s h;
       },
-      twin-alike s h,
+      is-alike s h,
     )
 
 -- ---- and there is a list that puts every listed attribute
@@ -154,18 +151,13 @@ putOf s a = setAttribute (a .group) (a .number) (itemRead s (itemOf a s))
 module _ (from : List ℕ) (hf : Stopped from) where
   is-put : (a : Attribute) → List·Memᴰ a (listed from) → Put from a (putOf from a)
   is-put a m =
-      puts (a .number) (itemRead from (itemOf a from)) refl (get-answers from hf (family from (ready from (hf .is-sound) (stopped-mark from (hf .is-stopped))) m))
+      puts (a .number) (itemRead from (itemOf a from)) refl (get-answers from hf (family from (stopped-ready from hf) m))
 
   are-restoring : (l : List Attribute) (s : List ℕ) → ((a : Attribute) → List·Memᴰ a l → List·Memᴰ a (listed from)) → Restoring from s (map (putOf from) l)
   are-restoring [] s h = none
   are-restoring (a ∷ l) s h =
       one (put (h a (List·Memᴰ·head refl)) (is-put a (h a (List·Memᴰ·head refl)))) (are-restoring l (call (putOf from a) s .state) (λ b m. h b (List·Memᴰ·tail m)))
 
-  among : (l : List Attribute) (a : Attribute) → List·Memᴰ a l → List·Memᴰ (putOf from a) (map (putOf from) l)
-  among [] a m = absurd (List·Memᴰ·not-nil m)
-  among (b ∷ l) a (List·Memᴰ·head e) = List·Memᴰ·head (ap (putOf from) e)
-  among (b ∷ l) a (List·Memᴰ·tail m) = List·Memᴰ·tail (among l a m)
-
   pub whole-list : (to : List ℕ) → (cs : List Call) × Restoring from to cs × Whole from cs
   whole-list to =
-      (map (putOf from) (listed from), are-restoring (listed from) to (λ a m. m), record { put-each = λ a m. (putOf from a, is-put a m, among (listed from) a m) })
+      (map (putOf from) (listed from), are-restoring (listed from) to (λ a m. m), record { put-each = λ a m. (putOf from a, is-put a m, mem-map (putOf from) (listed from) m) })
