@@ -11,7 +11,7 @@ use lib.IntN.{pos, negℤ}
 use Rattle.model.specs.Words.{lowest}
 use Rattle.model.specs.Layout.{word, vcpus, block, affinity}
 use Rattle.model.specs.Sound.{sound}
-use Rattle.model.specs.Refusals.{none}
+use Rattle.model.specs.declared.Refusal.the-variants.{None}
 use Rattle.model.specs.Interface.{plainTakes}
 use Rattle.model.specs.Attributes.{Attribute, low, high, groupOf, indexOf, numberOk, affinityKnown, item, itemIn, itemOf, known, registerTakes, takes, itemRead}
 use Rattle.model.specs.Calls.{Call, getAttribute, call, lentTo, acceptable, registerChecks, getChecks, checks, refusal, getValue, value}
@@ -202,7 +202,7 @@ get-answers s hs {a} l = is-granted c s grants .answer ∙ ap pos (rw (e, ← i)
     i : itemOf a s ≡ item (groupFor l) (a .number) s
     i = item-of a s (groupFor l) e
 
-    grants : refusal c s ≡ none
+    grants : refusal c s ≡ None
     grants =
         tests-next c s (hs .is-sound) ∙ rw e (none-of (registerChecks (groupFor l) (a .number) s)
         (number-ok s h l, (affinity-known s h l, (hs .is-stopped, (rw (← i, names-item s h l) (named-known s h l), tt)))))

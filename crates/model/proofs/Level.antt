@@ -11,8 +11,10 @@ use lib.IntN.{pos, negℤ}
 use Rattle.model.specs.Words.{bit, lowest}
 use Rattle.model.specs.Layout.{word, isInitialised, pmrAt, aprAt, running}
 use Rattle.model.specs.Interface.{system, best, nothing, found, rankPriority, groupPriority, runningLevel, ofGroup, gives, offered, levelOf, levelClear, systemReadClear}
-use Rattle.model.specs.Refusals.{Check, Refusal, none, refuse, firstFailing, errno}
+use Rattle.model.specs.Refusals.{Check, firstFailing, errno}
 use Rattle.model.specs.Calls.{readSystem, lentTo, acceptable, guestChecks, readChecks, checks, isVcpu, refusal, call}
+use Rattle.model.specs.declared.Refusal.{Refusal}
+use Rattle.model.specs.declared.Refusal.the-variants.{None, Refuse}
 use Rattle.model.specs.declared.Errno.{Errno}
 use Rattle.model.specs.declared.Errno.the-variants.{Eperm, Enxio, Efault, Ebusy, Einval}
 use Rattle.model.specs.declared.Readable.{Readable}
@@ -87,12 +89,12 @@ read-clear s v (Hppir g) h = refl
 read-clear s v Rpr h = refl
 
 abbrev Other : ℕ → Refusal → Type 0
-Other k r = (e : Errno) → r ≡ refuse e → errno e ≡ k → ⊥
+Other k r = (e : Errno) → r ≡ Refuse e → errno e ≡ k → ⊥
 
-other-none : (k : ℕ) → Other k none
+other-none : (k : ℕ) → Other k None
 other-none k e h q = let z : _≡_ {A = ℕ} 0 1 = cc in omega arith
 
-other-refuse : (k : ℕ) (n : Errno) → (errno n ≡ k → ⊥) → Other k (refuse n)
+other-refuse : (k : ℕ) (n : Errno) → (errno n ≡ k → ⊥) → Other k (Refuse n)
 other-refuse k n h e q l = let same : n ≡ e = cc in h (rw same l)
 
 other-next : (k : ℕ) (b : Bool) (n : Errno) (cs : List Check) → (errno n ≡ k → ⊥) → Other k (firstFailing cs) → Other k (firstFailing ((b, n) ∷ cs))
@@ -117,7 +119,7 @@ refusal-other : (v e : ℕ) (s : List ℕ) → Other 5 (refusal (readSystem v e)
 unfolding refusal errno
 refusal-other v e s = step (acceptable (lentTo (readSystem v e)) s)
   where
-    step : (t : Bool) → Other 5 (elim t [ true ↦ firstFailing (checks (readSystem v e) s) | false ↦ refuse Efault ])
+    step : (t : Bool) → Other 5 (elim t [ true ↦ firstFailing (checks (readSystem v e) s) | false ↦ Refuse Efault ])
     step true = checks-other v e s
     step false = other-refuse 5 Efault (omega arith)
 

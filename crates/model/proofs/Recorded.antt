@@ -12,7 +12,7 @@ use Rattle.model.specs.Words.{each}
 use Rattle.model.specs.Layout.{word, vcpus, block, affinity}
 use Rattle.model.specs.Attributes.{Attribute, itemOf, itemRead, itemWrite}
 use Rattle.model.specs.Record.{ofVcpuBlock, listed, Entry, header, attributeOf, entries, entryRead, entryBytes, recordOf, readable, entryPut, done, taking, load, restored, faults, loadedState, saved}
-use Rattle.model.specs.Refusals.{none}
+use Rattle.model.specs.declared.Refusal.the-variants.{None}
 use Rattle.model.specs.Calls.{save, restore, call, lentTo, acceptable, checks, refusal, value, next, filled, frontOf, handedBack, trace}
 use Rattle.model.specs.declared.Item.{Item}
 use Rattle.model.specs.Demands.{Stopped, Fresh, Alike, ByRecord}
@@ -198,7 +198,7 @@ module _ (from to : List ℕ) (hf : Stopped from) (ht : Fresh to) (same : Alike 
 
   -- ---- restore of the record, as a call
 
-  restore-grants : refusal (restore (recordOf from)) to ≡ none
+  restore-grants : refusal (restore (recordOf from)) to ≡ None
   unfolding lentTo acceptable checks faults
   restore-grants =
       tests-next (restore (recordOf from)) to (ht .is-sound)
@@ -215,7 +215,7 @@ module _ (from to : List ℕ) (hf : Stopped from) (ht : Fresh to) (same : Alike 
 -- ---- save, as a call
 
 module _ (from buf : List ℕ) (hf : Stopped from) (room : length (recordOf from) ≤ length buf) where
-  save-grants : refusal (save buf) from ≡ none
+  save-grants : refusal (save buf) from ≡ None
   unfolding lentTo acceptable checks
   save-grants = tests-next (save buf) from (hf .is-sound) ∙ none-of _ (hf .is-stopped, (le-leb (length (recordOf from)) (length buf) room, tt))
 

@@ -7,10 +7,12 @@ use mathlib.Core.Logic.{_⊎_, inl, inr, _↔_}
 use native.Mathlib.Omega.{arith}
 use borrow.Author.Tests.{eq-eqb, ne-eqb, lt-ltb, le-ltb, le-leb, lt-leb, not-true, not-false}
 use lib.IntN.{pos, negsuc, negℤ}
-use Rattle.model.specs.Refusals.{Check, Refusal, none, refuse, firstFailing, errno, number}
+use Rattle.model.specs.Refusals.{Check, firstFailing, errno, number}
 use Rattle.model.specs.Calls.{Call, Outcome, Does, lentTo, acceptable, checks, refusal, value, next, lentBytes, filled, settle, call}
 use Rattle.model.specs.declared.Errno.{Errno}
 use Rattle.model.specs.declared.Errno.the-variants.{Eperm, Eio, Enxio, Enomem, Efault, Ebusy, Eexist, Enodev, Einval, Enospc, Ebadmsg}
+use Rattle.model.specs.declared.Refusal.{Refusal}
+use Rattle.model.specs.declared.Refusal.the-variants.{None, Refuse}
 use Rattle.model.specs.declared.Answer.the-variants.{Value, Refused}
 
 -- ---- a list of tests: all hold, or a first one fails
@@ -19,16 +21,16 @@ abbrev pub Passed : List Check → Type 0
 Passed [] = Unit {0}
 Passed (c ∷ cs) = (c .0 ≡ true) × Passed cs
 
-pub passed : (cs : List Check) → firstFailing cs ≡ none → Passed cs
+pub passed : (cs : List Check) → firstFailing cs ≡ None → Passed cs
 unfolding firstFailing
 passed [] e = tt
 passed (c ∷ cs) e = step (c .0) refl (passed cs)
   where
-    step : (b : Bool) → c .0 ≡ b → (firstFailing cs ≡ none → Passed cs) → (c .0 ≡ true) × Passed cs
+    step : (b : Bool) → c .0 ≡ b → (firstFailing cs ≡ None → Passed cs) → (c .0 ≡ true) × Passed cs
     step true q ih = (q, ih (rw (q, firstFailing) at e))
     step false q ih = let z : _≡_ {A = ℕ} 0 1 = cc (rw (q, firstFailing) at e) in absurd (omega arith)
 
-pub none-of : (cs : List Check) → Passed cs → firstFailing cs ≡ none
+pub none-of : (cs : List Check) → Passed cs → firstFailing cs ≡ None
 unfolding firstFailing
 none-of [] h = refl
 none-of (c ∷ cs) h = rw (h .0, firstFailing) (none-of cs (h .1))
@@ -42,19 +44,19 @@ pub data Holds : List Check → Type 0 where
   end : Holds []
   also : {b : Bool} {e : Errno} {cs : List Check} → b ≡ true → Holds cs → Holds ((b, e) ∷ cs)
 
-pub fails-first : {cs : List Check} {n : Errno} → Fails cs n → firstFailing cs ≡ refuse n
+pub fails-first : {cs : List Check} {n : Errno} → Fails cs n → firstFailing cs ≡ Refuse n
 unfolding firstFailing
 fails-first (fails e) = rw (e, firstFailing)
 fails-first (holds e h) = rw (e, firstFailing) (fails-first h)
 
-pub holds-first : {cs : List Check} → Holds cs → firstFailing cs ≡ none
+pub holds-first : {cs : List Check} → Holds cs → firstFailing cs ≡ None
 unfolding firstFailing
 holds-first end = refl
 holds-first (also e h) = rw (e, firstFailing) (holds-first h)
 
 -- ---- EFAULT first, then the call's own tests in their order
 
-pub fault-first : (c : Call) (s : List ℕ) → acceptable (lentTo c) s ≡ false → refusal c s ≡ refuse Efault
+pub fault-first : (c : Call) (s : List ℕ) → acceptable (lentTo c) s ≡ false → refusal c s ≡ Refuse Efault
 unfolding refusal
 fault-first c s e = rw (e, refusal)
 
@@ -69,36 +71,36 @@ fault-answer c s e = ap (λ (r : Refusal). settle r c s .answer) (fault-first c 
 
 -- ---- every call is refused or not
 
-pub granted : (c : Call) (s : List ℕ) → refusal c s ≡ none → call c s ≡ record { answer = pos (value c s); state = next c s; buffer = filled (lentTo c) s }
+pub granted : (c : Call) (s : List ℕ) → refusal c s ≡ None → call c s ≡ record { answer = pos (value c s); state = next c s; buffer = filled (lentTo c) s }
 unfolding call settle number
 granted c s e = ap (λ (r : Refusal). settle r c s) e
 
-pub refused : (c : Call) (s : List ℕ) (e : Errno) → refusal c s ≡ refuse e → call c s ≡ record { answer = negℤ (pos (errno e)); state = s; buffer = lentBytes (lentTo c) }
+pub refused : (c : Call) (s : List ℕ) (e : Errno) → refusal c s ≡ Refuse e → call c s ≡ record { answer = negℤ (pos (errno e)); state = s; buffer = lentBytes (lentTo c) }
 unfolding call settle number
 refused c s e h = ap (λ (r : Refusal). settle r c s) h
 
-pub refused-or-granted : (c : Call) (s : List ℕ) → (refusal c s ≡ none) ⊎ ((e : Errno) × (refusal c s ≡ refuse e))
+pub refused-or-granted : (c : Call) (s : List ℕ) → (refusal c s ≡ None) ⊎ ((e : Errno) × (refusal c s ≡ Refuse e))
 refused-or-granted c s = step (refusal c s) refl
   where
-    step : (r : Refusal) → refusal c s ≡ r → (refusal c s ≡ none) ⊎ ((e : Errno) × (refusal c s ≡ refuse e))
-    step none h = inl h
-    step (refuse e) h = inr (e, h)
+    step : (r : Refusal) → refusal c s ≡ r → (refusal c s ≡ None) ⊎ ((e : Errno) × (refusal c s ≡ Refuse e))
+    step None h = inl h
+    step (Refuse e) h = inr (e, h)
 
 -- a call that is refused with e changes no word of the state and no byte of the lent buffer
 pub record IsRefused (c : Call) (s : List ℕ) (e : Errno) : Type 0 where
-  pub refuses : refusal c s ≡ refuse e
+  pub refuses : refusal c s ≡ Refuse e
   pub answer : call c s .answer ≡ negℤ (pos (errno e))
   pub state : call c s .state ≡ s
   pub buffer : call c s .buffer ≡ lentBytes (lentTo c)
 
 -- a call that is not refused
 pub record IsGranted (c : Call) (s : List ℕ) : Type 0 where
-  pub grants : refusal c s ≡ none
+  pub grants : refusal c s ≡ None
   pub answer : call c s .answer ≡ pos (value c s)
   pub state : call c s .state ≡ next c s
   pub buffer : call c s .buffer ≡ filled (lentTo c) s
 
-pub is-refused : (c : Call) (s : List ℕ) (e : Errno) → refusal c s ≡ refuse e → IsRefused c s e
+pub is-refused : (c : Call) (s : List ℕ) (e : Errno) → refusal c s ≡ Refuse e → IsRefused c s e
 is-refused c s e h =
     record {
       refuses = h;
@@ -107,7 +109,7 @@ is-refused c s e h =
       buffer = ap (λ (o : Outcome). o .buffer) (refused c s e h);
     }
 
-pub is-granted : (c : Call) (s : List ℕ) → refusal c s ≡ none → IsGranted c s
+pub is-granted : (c : Call) (s : List ℕ) → refusal c s ≡ None → IsGranted c s
 is-granted c s h =
     record {
       grants = h;
@@ -119,7 +121,7 @@ is-granted c s h =
 pub every-call : (c : Call) (s : List ℕ) → IsGranted c s ⊎ ((e : Errno) × IsRefused c s e)
 every-call c s = step (refused-or-granted c s)
   where
-    step : (refusal c s ≡ none) ⊎ ((e : Errno) × (refusal c s ≡ refuse e)) → IsGranted c s ⊎ ((e : Errno) × IsRefused c s e)
+    step : (refusal c s ≡ None) ⊎ ((e : Errno) × (refusal c s ≡ Refuse e)) → IsGranted c s ⊎ ((e : Errno) × IsRefused c s e)
     step (inl h) = inl (is-granted c s h)
     step (inr h) = inr (h .0, is-refused c s (h .0) (h .1))
 
@@ -143,43 +145,40 @@ minus : (n : ℕ) → 0 < n → negℤ (pos n) ≡ negsuc (n - 1)
 minus zero h = absurd (omega arith)
 minus (suc n) h = let e : suc n - 1 ≡ n = omega arith in rw e
 
-pub negative-errno : (c : Call) (s : List ℕ) (n : ℕ) → call c s .answer ≡ negsuc n → (e : Errno) × (refusal c s ≡ refuse e) × (errno e ≡ suc n)
+pub negative-errno : (c : Call) (s : List ℕ) (n : ℕ) → call c s .answer ≡ negsuc n → (e : Errno) × (refusal c s ≡ Refuse e) × (errno e ≡ suc n)
 negative-errno c s n h = step (every-call c s)
   where
-    step : IsGranted c s ⊎ ((e : Errno) × IsRefused c s e) → (e : Errno) × (refusal c s ≡ refuse e) × (errno e ≡ suc n)
+    step : IsGranted c s ⊎ ((e : Errno) × IsRefused c s e) → (e : Errno) × (refusal c s ≡ Refuse e) × (errno e ≡ suc n)
     step (inl g) = let z : _≡_ {A = ℕ} 0 1 = cc (g .answer) in absurd (omega arith)
     step (inr r) =
         let k : errno (r .0) - 1 ≡ n = cc (r .1 .answer, minus (errno (r .0)) (errno-positive (r .0))) in
         (r .0, r .1 .refuses, omega (arith, errno-positive (r .0)))
 
-pub refused-negative : (c : Call) (s : List ℕ) (e : Errno) → refusal c s ≡ refuse e → call c s .answer ≡ negsuc (errno e - 1)
+pub refused-negative : (c : Call) (s : List ℕ) (e : Errno) → refusal c s ≡ Refuse e → call c s .answer ≡ negsuc (errno e - 1)
 refused-negative c s e h = is-refused c s e h .answer ∙ minus (errno e) (errno-positive e)
 
-pub negative-refused : (c : Call) (s : List ℕ) → ((n : ℕ) × (call c s .answer ≡ negsuc n)) ↔ ((e : Errno) × (refusal c s ≡ refuse e))
+pub negative-refused : (c : Call) (s : List ℕ) → ((n : ℕ) × (call c s .answer ≡ negsuc n)) ↔ ((e : Errno) × (refusal c s ≡ Refuse e))
 negative-refused c s =
     (λ h. let r = negative-errno c s (h .0) (h .1) in (r .0, r .1), λ h. (errno (h .0) - 1, refused-negative c s (h .0) (h .1)))
 
--- ---- the same, as a function promises it
+-- ---- what a function of the code promises: the refusal, and the call by its refusal
 
-pub faults : (c : Call) (s : List ℕ) → acceptable (lentTo c) s ≡ false → Does (call c s) (number (Refused Efault)) s (lentBytes (lentTo c))
+pub fault-is : (c : Call) (s : List ℕ) → acceptable (lentTo c) s ≡ false → Refuse Efault ≡ refusal c s
+fault-is c s e = sym (fault-first c s e)
+
+pub refuse-is : (c : Call) (s : List ℕ) (e : Errno) → acceptable (lentTo c) s ≡ true → Fails (checks c s) e → Refuse e ≡ refusal c s
+refuse-is c s e a h = sym (tests-next c s a ∙ fails-first h)
+
+pub none-is : (c : Call) (s : List ℕ) → acceptable (lentTo c) s ≡ true → Holds (checks c s) → None ≡ refusal c s
+none-is c s a h = sym (tests-next c s a ∙ holds-first h)
+
+pub refuses : (c : Call) (s : List ℕ) (e : Errno) → Refuse e ≡ refusal c s → Does (call c s) (number (Refused e)) s (lentBytes (lentTo c))
 unfolding number
-faults c s e = rw (refused c s Efault (fault-first c s e)) (record { answer = refl; state = refl; buffer = refl })
+refuses c s e h = rw (refused c s e (sym h)) (record { answer = refl; state = refl; buffer = refl })
 
-pub refuses-first : (c : Call) (s : List ℕ) (e : Errno) → acceptable (lentTo c) s ≡ true → firstFailing (checks c s) ≡ refuse e → Does (call c s) (number (Refused e)) s (lentBytes (lentTo c))
+pub grants : (c : Call) (s : List ℕ) (v : ℕ) (t b : List ℕ) → None ≡ refusal c s → v ≡ value c s → t ≡ next c s → b ≡ filled (lentTo c) s → Does (call c s) (number (Value v)) t b
 unfolding number
-refuses-first c s e a h = rw (refused c s e (tests-next c s a ∙ h)) (record { answer = refl; state = refl; buffer = refl })
-
-pub grants-first : (c : Call) (s : List ℕ) (v : ℕ) (t b : List ℕ) → acceptable (lentTo c) s ≡ true → firstFailing (checks c s) ≡ none → v ≡ value c s → t ≡ next c s → b ≡ filled (lentTo c) s
-    → Does (call c s) (number (Value v)) t b
-unfolding number
-grants-first c s v t b a h p q r = rw (granted c s (tests-next c s a ∙ h)) (record { answer = ap pos p; state = q; buffer = r })
-
-pub refuses : (c : Call) (s : List ℕ) (e : Errno) → acceptable (lentTo c) s ≡ true → Fails (checks c s) e → Does (call c s) (number (Refused e)) s (lentBytes (lentTo c))
-refuses c s e a h = refuses-first c s e a (fails-first h)
-
-pub grants : (c : Call) (s : List ℕ) (v : ℕ) (t b : List ℕ) → acceptable (lentTo c) s ≡ true → Holds (checks c s) → v ≡ value c s → t ≡ next c s → b ≡ filled (lentTo c) s
-    → Does (call c s) (number (Value v)) t b
-grants c s v t b a h p q r = grants-first c s v t b a (holds-first h) p q r
+grants c s v t b h p q r = rw (granted c s (sym h)) (record { answer = ap pos p; state = q; buffer = r })
 
 -- what a function that returns a test's value tells
 pub told-no : (b r : Bool) → r ≡ b → not r ≡ true → b ≡ false

@@ -14,7 +14,7 @@ use Rattle.model.specs.Layout.{stateLength, word, initialised, vcpus, bl
 use Rattle.model.specs.Sound.{fresh, fits, freshBits, freshBlockBits, entry}
 use Rattle.model.specs.Attributes.{Attribute, attr, item, itemRead, itemWrite, groupOf}
 use Rattle.model.specs.Calls.{Call, getAttribute, setAttribute, call, lentTo, acceptable, registerChecks, setChecks, checks, refusal, value, setState, next, after, trace}
-use Rattle.model.specs.Refusals.{none}
+use Rattle.model.specs.declared.Refusal.the-variants.{None}
 use Rattle.model.specs.Demands.{Stopped, Fresh, Alike, Put, puts, Allowed, put, get, refused, Restoring, one, Whole, ByAttributes}
 use Rattle.model.specs.Demands as demands
 use Rattle.model.specs.declared.RegisterGroup.{RegisterGroup}
@@ -144,7 +144,7 @@ module _ (from to : List ℕ) (hf : Stopped from) (ht : Fresh to) (same : Alike 
       stop : Stopped s
       stop = mixed-stopped from to s rf rt same b hf (fresh-stopped to ht)
 
-      grants : refusal c s ≡ none
+      grants : refusal c s ≡ None
       grants =
           tests-next c s (stop .is-sound) ∙ rw eg (none-of (registerChecks q n s ++ _)
           (told .number, (same-known from s alike q n ∙ told .affinity, (stop .is-stopped, (rw i (named-known from rf l), (rw (i, is-value) (value-taken from rf l), tt))))))

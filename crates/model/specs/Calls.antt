@@ -10,13 +10,15 @@ use Rattle.model.specs.Words.{val}
 use Rattle.model.specs.Layout.{stateLength, mostVcpus, initialisedAt, countAt, vcpusAt, isInitialised, count, vcpus, affinityAt, runningAt, running, bprAt, leastBpr, sgiEdgesAt}
 use Rattle.model.specs.Interrupts.{isPpi, isSpi}
 use Rattle.model.specs.Sound.{sound, stopped, fresh, isCount, isAffinity, unused}
-use Rattle.model.specs.Refusals.{Check, Refusal, none, refuse, firstFailing, number}
+use Rattle.model.specs.Refusals.{Check, firstFailing, number}
 use Rattle.model.specs.Registers.{guestRead, guestWrite}
 use Rattle.model.specs.Lines.{lineChanged}
 use Rattle.model.specs.Interface.{system, signal, plainRead, plainWrite, systemRead, systemReadNext, systemReadClear, systemWrite}
 use Rattle.model.specs.Attributes.{groupOf, numberOk, affinityKnown, item, known, takes, itemRead, itemWrite}
 use Rattle.model.specs.Record.{recordOf, saved, restored, faults, loadedState}
 use Rattle.model.specs.declared.Errno.the-variants.{Eperm, Eio, Enxio, Enomem, Efault, Ebusy, Eexist, Enodev, Einval, Enospc}
+use Rattle.model.specs.declared.Refusal.{Refusal}
+use Rattle.model.specs.declared.Refusal.the-variants.{None, Refuse}
 use Rattle.model.specs.declared.Answer.the-variants.{Value, Refused}
 use Rattle.model.specs.declared.View.the-variants as view
 use Rattle.model.specs.declared.SystemRegister.{SystemRegister}
@@ -146,7 +148,7 @@ checks (save buf) s = (stopped s, Ebusy) ∷ (leb (length (recordOf s)) (length 
 checks (restore bytes) s = (stopped s, Ebusy) ∷ (fresh s, Eexist) ∷ faults (restored s bytes)
 
 unfoldable pub refusal : Call → List ℕ → Refusal
-refusal c s = elim (acceptable (lentTo c) s) [ true ↦ firstFailing (checks c s) | false ↦ refuse Efault ]
+refusal c s = elim (acceptable (lentTo c) s) [ true ↦ firstFailing (checks c s) | false ↦ Refuse Efault ]
 
 -- ---- what a call that is not refused answers: all but reads, queries and save answer 0
 
@@ -251,8 +253,8 @@ pub record Outcome : Type 0 where
 
 -- a refused call changes nothing
 unfoldable pub settle : Refusal → Call → List ℕ → Outcome
-settle none c s = record { answer = number (Value (value c s)); state = next c s; buffer = filled (lentTo c) s }
-settle (refuse e) c s = record { answer = number (Refused e); state = s; buffer = lentBytes (lentTo c) }
+settle None c s = record { answer = number (Value (value c s)); state = next c s; buffer = filled (lentTo c) s }
+settle (Refuse e) c s = record { answer = number (Refused e); state = s; buffer = lentBytes (lentTo c) }
 
 unfoldable pub call : Call → List ℕ → Outcome
 call c s = settle (refusal c s) c s

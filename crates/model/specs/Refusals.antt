@@ -5,6 +5,8 @@ use mathlib.Core.List.{List, [], _∷_}
 use lib.IntN.{ℤ, pos, negℤ}
 use Rattle.model.specs.declared.Errno.{Errno}
 use Rattle.model.specs.declared.Errno.the-variants.{Eperm, Eio, Enxio, Enomem, Efault, Ebusy, Eexist, Enodev, Einval, Enospc, Ebadmsg}
+use Rattle.model.specs.declared.Refusal.{Refusal}
+use Rattle.model.specs.declared.Refusal.the-variants.{None, Refuse}
 use Rattle.model.specs.declared.Answer.{Answer}
 use Rattle.model.specs.declared.Answer.the-variants.{Value, Refused}
 
@@ -31,11 +33,7 @@ number (Refused e) = negℤ (pos (errno e))
 abbrev pub Check : Type 0
 Check = Bool × Errno
 
-pub data Refusal : Type 0 where
-  none : Refusal
-  refuse : Errno → Refusal
-
 -- the refusal of the first test that fails
 unfoldable pub firstFailing : List Check → Refusal
-firstFailing [] = none
-firstFailing (c ∷ cs) = elim (c .0) [ true ↦ firstFailing cs | false ↦ refuse (c .1) ]
+firstFailing [] = None
+firstFailing (c ∷ cs) = elim (c .0) [ true ↦ firstFailing cs | false ↦ Refuse (c .1) ]

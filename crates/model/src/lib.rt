@@ -15,6 +15,12 @@ pub enum Errno {
     Ebadmsg,
 }
 
+// Whether a call is refused, and with what.
+pub enum Refusal {
+    None,
+    Refuse(Errno),
+}
+
 // What a call answers.
 pub enum Answer {
     Value(u32),
