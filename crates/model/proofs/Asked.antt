@@ -10,7 +10,6 @@ use lib.Dec.{eqb, ltb}
 use lib.IntN.{pos, negℤ}
 use Rattle.model.specs.Words.{lowest}
 use Rattle.model.specs.Layout.{word, vcpus, block, affinity}
-use Rattle.model.specs.Sound.{sound}
 use Rattle.model.specs.declared.Refusal.the-variants.{None}
 use Rattle.model.specs.Interface.{plainTakes}
 use Rattle.model.specs.Attributes.{Attribute, low, high, groupOf, indexOf, numberOk, affinityKnown, item, itemIn, itemOf, known, registerTakes, takes, itemRead}
@@ -22,7 +21,7 @@ use Rattle.model.specs.declared.RegisterGroup.the-variants.{Distributor,
 use Rattle.model.specs.declared.AttributeGroup.the-variants.{Registers}
 use Rattle.model.proofs.Tests.{and-true}
 use Rattle.model.proofs.Soundness.{stopped-ready, Ready}
-use Rattle.model.proofs.Refused.{passed, none-of, tests-next, fault-first, IsGranted, is-granted, every-call, errno-positive}
+use Rattle.model.proofs.Refused.{none-of, tests-next, unrefused, IsGranted, is-granted, every-call, errno-positive}
 use Rattle.model.proofs.Listed.{Listed, groups, enables, latches, actives, pmr, ctlr, ap0r, ap1r, igrpen0, igrpen1, encodingOf, control, status, spi-flags, spi-lines, spi-priority, spi-config, spi-route, vcpu-status, vcpu-flags, vcpu-lines, vcpu-priority, vcpu-system, bpr0, bpr1}
 use Rattle.model.proofs.Places.{small-encoding, placeOf, shown, shapeOf, namedBy, index-of, vcpu-parts, names-item}
 use Rattle.model.proofs.Cover.{shows}
@@ -225,10 +224,6 @@ get-answered f g n v q e a = ⊎-elim told (λ r. absurd (sign _ (errno-positive
 
     told : IsGranted (getAttribute g n) f → Answered f q n v
     told r =
-        let p = passed (registerChecks q n f) (rw e at (sym (tests-next (getAttribute g n) f (sound-of (sound f) refl)) ∙ r .grants)) in
+        let p = rw e at (unrefused (getAttribute g n) f (r .grants) .1) in
         let y : pos (itemRead f (item q n f)) ≡ pos v = (rw e at (sym (r .answer))) ∙ a in
         record { number = p .0; affinity = p .1 .0; reads = cc }
-      where
-        sound-of : (b : Bool) → sound f ≡ b → sound f ≡ true
-        sound-of true z = z
-        sound-of false z = let y : _≡_ {A = ℕ} 0 1 = cc (sym (fault-first (getAttribute g n) f z) ∙ r .grants) in absurd (omega arith)

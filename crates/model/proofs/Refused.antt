@@ -64,6 +64,14 @@ pub tests-next : (c : Call) (s : List ℕ) → acceptable (lentTo c) s ≡ true 
 unfolding refusal
 tests-next c s e = rw (e, refusal)
 
+-- where a call is not refused, its state is acceptable and all its tests hold
+pub unrefused : (c : Call) (s : List ℕ) → refusal c s ≡ None → (acceptable (lentTo c) s ≡ true) × Passed (checks c s)
+unrefused c s e = step (acceptable (lentTo c) s) refl
+  where
+    step : (b : Bool) → acceptable (lentTo c) s ≡ b → (acceptable (lentTo c) s ≡ true) × Passed (checks c s)
+    step true h = (h, passed (checks c s) (sym (tests-next c s h) ∙ e))
+    step false h = let z : _≡_ {A = ℕ} 0 1 = cc (sym (fault-first c s h) ∙ e) in absurd (omega arith)
+
 -- a call whose state is not acceptable answers -14, whatever it is
 pub fault-answer : (c : Call) (s : List ℕ) → acceptable (lentTo c) s ≡ false → call c s .answer ≡ negℤ (pos 14)
 unfolding call settle number errno
