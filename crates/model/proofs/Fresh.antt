@@ -1,21 +1,21 @@
 -- A device that was just made is sound; initialising a sound device with a vCPU leaves one that is fresh and sound.
-use Prim.Native.Nat.{ℕ, _+_, _*_, _-_, _/_, _%_, _^_, _≤_, _<_}
+use Prim.Native.Nat.{ℕ, _+_, _-_, _/_, _%_, _^_, _≤_, _<_}
 use mathlib.Core.Path.{_≡_, refl, _∙_}
-use mathlib.Core.Bool.{Bool, true, false, cond, _&&_, _||_}
+use mathlib.Core.Bool.{Bool, true, false, cond}
 use mathlib.Core.List.{List}
 use native.Mathlib.Decide.{ℕ-discrete, decLt}
 use native.Mathlib.Omega.{arith}
 use borrow.Author.Tests.{eqb-true, eq-eqb, lt-ltb, le-ltb, le-leb}
-use lib.Dec.{eqb, leb}
+use lib.Dec.{eqb}
 use lib.ListN.{length, getD, set, length-set}
 use lib.Seq.{getD-set-same, getD-set-other}
 use Rattle.model.specs.Words.{bit, within, every, allBelow}
-use Rattle.model.specs.Layout.{stateLength, word, initialised, count, vcpus}
+use Rattle.model.specs.Layout.{stateLength, word, initialised, count, vcpus, block}
 use Rattle.model.specs.Sound.{headerBits, blockBits, freshHeaderBits, freshBlockBits, entry, usedBits, freshBits, allowedBits, fits, wordOk, isCount, setup, vcpuOk, sound, fresh}
 use Rattle.model.specs.Calls.{made, initialisedNext}
 use Rattle.model.proofs.Tests.{both, and-true, or-right, every-at, every-all, below-at, below-all}
 use Rattle.model.proofs.Within.{fits-none, bits-fit, zero-fits, wider}
-use Rattle.model.proofs.Soundness.{Sound, open-sound, close-sound, setup-vcpus, open-vcpu, close-vcpu, is-count}
+use Rattle.model.proofs.Soundness.{Sound, open-sound, close-sound, setup-vcpus, setup-counted, is-count, word-fresh, word-used, vcpu-kept}
 
 -- just made: all zero
 pub made-sound : sound made ≡ true
@@ -50,7 +50,7 @@ fresh-wider c n k w e = go (decLt k 16) (decLt k 272) (decLt ((k - 16) / 32) n)
     go (no a) (no b) d3 = none (usedBits c n k) (fits-none w (rw (le-ltb k 16 (omega arith), le-ltb k 272 (omega arith)) at e))
 
 pub fresh-sound : (s : List ℕ) → length s ≡ stateLength → setup (initialised s) (count s) (vcpus s) ≡ true → allBelow (vcpuOk s) (vcpus s) ≡ true → fresh s ≡ true → sound s ≡ true
-unfolding fresh wordOk allowedBits
+unfolding fresh
 fresh-sound s size ok each e =
     let a = both (eqb (initialised s) 1) (every (λ k w. fits w (freshBits (vcpus s) k)) 0 s) e in
     let i : initialised s ≡ 1 = eqb-true (initialised s) 1 (a .0) in
@@ -58,7 +58,7 @@ fresh-sound s size ok each e =
       size = size;
       set-up = ok;
       each-vcpu = below-at (vcpuOk s) (vcpus s) each;
-      each-word = λ k l. rw i (fresh-wider (count s) (vcpus s) k (word s k) (every-at (λ j w. fits w (freshBits (vcpus s) j)) s (a .1) k (omega arith)));
+      each-word = λ k l. rw (word-used s i k (word s k)) (fresh-wider (count s) (vcpus s) k (word s k) (every-at (λ j w. fits w (freshBits (vcpus s) j)) s (a .1) k (omega arith)));
     })
 
 -- every word of 32 bits fits the mask of all ones
@@ -87,17 +87,11 @@ module _ (s : List ℕ) (h : Sound s) (start : initialised s ≡ 0) (some : 1 �
   later k l = getD-set-other (set s 1 c) 0 k 1 0 (λ z. omega arith) ∙ getD-set-other s 1 k c 0 (λ z. omega arith)
 
   is-valid : isCount c ≡ true
-  unfolding setup
   is-valid = go (eqb (count s) 0) refl
     where
-      asked : (eqb (count s) 0 || isCount (count s)) ≡ true
-      asked =
-          let a = both (leb (initialised s) 1 && leb (vcpus s) 8 && (eqb (count s) 0 || isCount (count s))) _ (h .set-up) in
-          both (leb (initialised s) 1 && leb (vcpus s) 8) (eqb (count s) 0 || isCount (count s)) (a .0) .1
-
       go : (b : Bool) → eqb (count s) 0 ≡ b → isCount (cond b 256 (count s)) ≡ true
       go true e = unfold isCount in refl
-      go false e = rw e at asked
+      go false e = rw e at (setup-counted _ _ _ (h .set-up))
 
   ready-set-up : setup (initialised t) (count t) (vcpus t) ≡ true
   unfolding setup
@@ -105,15 +99,8 @@ module _ (s : List ℕ) (h : Sound s) (start : initialised s ≡ 0) (some : 1 �
       let few : vcpus s ≤ 8 = setup-vcpus (initialised s) (count s) (vcpus s) (h .set-up) in
       rw (mark, counted, later 2 (omega arith), is-valid, le-leb (vcpus s) 8 few, le-leb 1 (vcpus s) some) (and-true (or-right (eqb c 0) refl) refl)
 
-  vcpu-kept : (v : ℕ) → v < vcpus t → vcpuOk t v ≡ true
-  vcpu-kept v l =
-      let o = open-vcpu s v (h .each-vcpu v (rw (later 2 (omega arith)) at l)) in
-      close-vcpu t v (record {
-        edges = later _ (omega arith) ∙ o .edges;
-        bpr0 = rw (later (16 + 32 * v + 21) (omega arith)) (o .bpr0);
-        bpr1 = rw (later (16 + 32 * v + 22) (omega arith)) (o .bpr1);
-        distinct = λ u m. rw (later (16 + 32 * u + 16) (omega arith), later (16 + 32 * v + 16) (omega arith)) (o .distinct u m);
-      })
+  each-vcpu : (v : ℕ) → v < vcpus t → vcpuOk t v ≡ true
+  each-vcpu v l = vcpu-kept s t v (λ u j m n. later (block u + j) (omega arith)) (h .each-vcpu v (rw (later 2 (omega arith)) at l))
 
   fresh-word : (k : ℕ) → k < stateLength → fits (word t k) (freshBits (vcpus t) k) ≡ true
   fresh-word k l = rw (later 2 (omega arith)) (go (ℕ-discrete k 0) (ℕ-discrete k 1))
@@ -121,13 +108,13 @@ module _ (s : List ℕ) (h : Sound s) (start : initialised s ≡ 0) (some : 1 �
       go : Dec (k ≡ 0) → Dec (k ≡ 1) → fits (word t k) (freshBits (vcpus s) k) ≡ true
       go (yes e) d = rw (e, mark) (unfold fits within freshBits entry in refl)
       go (no a) (yes e) = rw (e, counted) (unfold freshBits entry in (all-ones c (omega (arith, is-count c is-valid .most))))
-      go (no a) (no b) = rw (later k (omega arith)) (unfold wordOk allowedBits in (rw start at (h .each-word k l)))
+      go (no a) (no b) = rw (later k (omega arith), ← word-fresh s start k (word s k)) (h .each-word k l)
 
   pub initialised-fresh : (fresh t ≡ true) × (sound t ≡ true)
   unfolding fresh
   initialised-fresh =
       let f : fresh t ≡ true = and-true (eq-eqb (word t 0) 1 mark) (every-all (λ k w. fits w (freshBits (vcpus t) k)) t (λ k l. fresh-word k (omega (arith, long)))) in
-      (f, fresh-sound t long ready-set-up (below-all (vcpuOk t) (vcpus t) vcpu-kept) f)
+      (f, fresh-sound t long ready-set-up (below-all (vcpuOk t) (vcpus t) each-vcpu) f)
 
 -- what initialise leaves of a sound device with a vCPU that was not initialised
 pub initialise-leaves-fresh : (s : List ℕ) → sound s ≡ true → initialised s ≡ 0 → 1 ≤ vcpus s → (fresh (initialisedNext s) ≡ true) × (sound (initialisedNext s) ≡ true)

@@ -17,6 +17,8 @@ pub mod Sizes
 pub mod Places
 pub mod Cover
 pub mod Puts
+pub mod Stores
+pub mod Kept
 pub mod Mixed
 pub mod Asked
 pub mod Restores

@@ -10,7 +10,7 @@ use lib.Dec.{ltb}
 use lib.ListN.{getD}
 use Rattle.model.specs.Words.{bit}
 use Rattle.model.specs.Layout.{stateLength, word, count, vcpus, block, routeAt}
-use Rattle.model.specs.Sound.{fits, usedBits, entry, headerBits, blockBits, bankBits, lastBankBits}
+use Rattle.model.specs.Sound.{fits, usedBits, freshBits, entry, headerBits, blockBits, bankBits, lastBankBits, freshBlockBits}
 use Rattle.model.proofs.Within.{fits-lt, fits-bit}
 use Rattle.model.proofs.Soundness.{Ready}
 
@@ -70,6 +70,14 @@ module _ (c n : ℕ) where
       go : Dec (p < 1756) → _≡_ {A = ℕ} (cond (ltb p 1756 && ltb (p - 736) c) 0x00ffffff 0) 0
       go (yes q) = rw (lt-ltb p 1756 q, le-ltb (p - 736) c (h q))
       go (no q) = rw (le-ltb p 1756 (omega arith))
+
+-- a block of a fresh device
+pub fresh-block-bits : (n v j : ℕ) → v < 8 → j < 32 → freshBits n (block v + j) ≡ entry (ltb v n) freshBlockBits j
+unfolding freshBits
+fresh-block-bits n v j l m =
+    let d : (block v + j - 16) / 32 ≡ v = omega arith in
+    let r : (block v + j - 16) % 32 ≡ j = omega arith in
+    rw (le-ltb (block v + j) 16 (omega arith), lt-ltb (block v + j) 272 (omega arith), d, r)
 
 -- ---- the words of a device
 

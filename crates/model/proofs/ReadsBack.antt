@@ -1,20 +1,18 @@
--- A put reads back exactly what some device of the target's set-up reads there, as the page says of restore; and storing a word that may stand there keeps a device sound.
+-- A put reads back exactly what some device of the target's set-up reads there, as the page says of restore.
 use Prim.Native.Nat.{ℕ, _+_, _*_, _-_, _/_, _%_, _^_, _≤_, _<_, min, max}
-use mathlib.Core.Path.{_≡_, refl, sym, ap, _∙_, subst}
+use mathlib.Core.Path.{_≡_, refl, sym, ap, _∙_}
 use mathlib.Core.Bool.{Bool, true, false, cond, _&&_}
 use mathlib.Core.List.{List, List·Memᴰ}
 use mathlib.Core.Logic.{_⊎_, inl, inr, ⊎-elim, _↔_}
-use native.Mathlib.Decide.{ℕ-discrete}
 use native.Mathlib.Omega.{arith}
 use borrow.Author.Tests.{eqb-true, lt-ltb, ltb-true, le-leb}
 use lib.Dec.{ltb, leb}
-use lib.ListN.{getD, set, length-set}
+use lib.ListN.{getD, set}
 use lib.Pow.{pow-mono}
-use lib.Seq.{getD-set-same, getD-set-other}
 use Rattle.model.specs.Words.{bit, gather, within, allBelow}
 use Rattle.model.specs.Layout.{stateLength, word, count, vcpus, block, runningAt, bank, routeAt}
 use Rattle.model.specs.Interrupts.{isSpi, flag, edge, priority}
-use Rattle.model.specs.Sound.{fits, usedBits, vcpuOk, blockBits, bankBits, lastBankBits}
+use Rattle.model.specs.Sound.{fits, usedBits, blockBits, bankBits, lastBankBits}
 use Rattle.model.specs.Registers.{has, seenBy, flagAfter, writeFlags, writePriority, writeConfig, writeRoute, write, flags, ruleFor, writtenStatus, statusAt}
 use Rattle.model.specs.Interface.{plainWrite}
 use Rattle.model.specs.Attributes.{Attribute, itemOf, takes, itemRead, itemWrite}
@@ -27,117 +25,15 @@ use Rattle.model.specs.declared.Item.{Item}
 use Rattle.model.proofs.Bits.{gather-lt, bit-gather, bit-below}
 use Rattle.model.proofs.Tests.{both, below-at}
 use Rattle.model.proofs.Within.{fits-bit, bits-fit}
-use Rattle.model.proofs.Soundness.{stopped-ready, Ready, ready-sound, stopped-running, running-stopped, open-vcpu, close-vcpu}
+use Rattle.model.proofs.Soundness.{stopped-ready, Ready, word-used}
 use Rattle.model.proofs.Masks.{route-bits, header-bits, SpiWord, block-is, bank-is}
 use Rattle.model.proofs.Readings.{bank-at, flag-bit, priority-bit}
 use Rattle.model.proofs.Listed.{Listed, groups, enables, latches, actives, Stored, pmr, ctlr, ap0r, ap1r, igrpen0, igrpen1, control, status, spi-flags, spi-lines, spi-priority, spi-config, spi-route, vcpu-status, vcpu-flags, vcpu-lines, vcpu-priority, vcpu-system, family, bpr0, bpr1}
 use Rattle.model.proofs.Places.{storedAt, plainOf, placeOf, namedBy, names-item, reads-place}
 use Rattle.model.proofs.Cover.{carried}
+use Rattle.model.proofs.Stores.{MayStore, store-same, store-ready, store-stopped, Free, Outside, block-store, outside-store}
 use Rattle.model.proofs.Restores.{fresh-ready, fresh-stopped}
 use Rattle.model.proofs.Recorded.{value-readable}
-
--- ---- storing one word
-
--- the word w may be stored at place p: it is no word of the set-up, and w is one that may stand there
-pub record MayStore (s : List ℕ) (p w : ℕ) : Type 0 where
-  pub past : 3 ≤ p
-  pub inside : p < stateLength
-  pub fit : fits w (usedBits (count s) (vcpus s) p) ≡ true
-  pub no-affinity : (v : ℕ) → v < vcpus s → ¬ (p ≡ block v + 16)
-  pub edges : (v : ℕ) → v < vcpus s → p ≡ block v + 13 → w ≡ 0xffff
-  pub bpr0 : (v : ℕ) → v < vcpus s → p ≡ block v + 21 → 2 ≤ w
-  pub bpr1 : (v : ℕ) → v < vcpus s → p ≡ block v + 22 → 3 ≤ w
-
-module _ (s : List ℕ) (h : Ready s) (p w : ℕ) (m : MayStore s p w) where
-  -- what held of a word, and holds of w if it is the one stored, holds after
-  holds {ℓ} : (P : ℕ → Type ℓ) (k : ℕ) → (p ≡ k → P w) → P (word s k) → P (word (set s p w) k)
-  holds P k new old = go (ℕ-discrete k p)
-    where
-      go : Dec (k ≡ p) → P (word (set s p w) k)
-      go (yes e) = subst P (sym (ap (word (set s p w)) e ∙ getD-set-same s p w 0 (omega (arith, h .size, m .inside)))) (new (sym e))
-      go (no e) = subst P (sym (getD-set-other s p k w 0 e)) old
-
-  keeps : (k : ℕ) → ¬ (p ≡ k) → word (set s p w) k ≡ word s k
-  keeps k n = holds (λ x. x ≡ word s k) k (λ e. absurd (n e)) refl
-
-  pub store-alike : Alike s (set s p w)
-  store-alike = record {
-    same-count = keeps 1 (λ e. omega (arith, m .past));
-    same-number = keeps 2 (λ e. omega (arith, m .past));
-    same-affinities = λ v l. keeps (block v + 16) (m .no-affinity v l);
-  }
-
-  each-vcpu : (v : ℕ) → v < vcpus s → vcpuOk (set s p w) v ≡ true
-  each-vcpu v l =
-      let a = open-vcpu s v (h .each-vcpu v l) in
-      close-vcpu (set s p w) v (record {
-        edges = holds (λ x. x ≡ 0xffff) (block v + 13) (m .edges v l) (a .edges);
-        bpr0 = holds (λ x. 2 ≤ x) (block v + 21) (m .bpr0 v l) (a .bpr0);
-        bpr1 = holds (λ x. 3 ≤ x) (block v + 22) (m .bpr1 v l) (a .bpr1);
-        distinct = λ u k. rw (store-alike .same-affinities u (omega arith), store-alike .same-affinities v l) (a .distinct u k);
-      })
-
-  -- the device stays sound, of the same set-up
-  pub store-ready : Ready (set s p w)
-  store-ready = record {
-    size = length-set s p w ∙ h .size;
-    mark = keeps 0 (λ e. omega (arith, m .past)) ∙ h .mark;
-    counted = rw (store-alike .same-count) (h .counted);
-    some = rw (store-alike .same-number) (h .some);
-    few = rw (store-alike .same-number) (h .few);
-    each-vcpu = λ v l. each-vcpu v (rw (store-alike .same-number) at l);
-    used = λ k l. rw (store-alike .same-count, store-alike .same-number)
-        (holds (λ x. fits x (usedBits (count s) (vcpus s) k) ≡ true) k (λ e. rw (← e) (m .fit)) (h .used k l));
-  }
-
-  -- and stopped, if no vCPU's running mark was stored
-  pub store-stopped : Stopped s → ((v : ℕ) → v < vcpus s → ¬ (p ≡ runningAt v)) → Stopped (set s p w)
-  store-stopped st idle = record {
-    is-sound = ready-sound (set s p w) store-ready;
-    is-stopped = running-stopped (set s p w) (store-ready .mark) (λ v l.
-        let k : v < vcpus s = rw (store-alike .same-number) at l in
-        keeps (runningAt v) (idle v k) ∙ stopped-running s (st .is-stopped) v k);
-  }
-
--- where a word that fits may be stored: at word j of a vCPU's block
-pub record Free (j w : ℕ) : Type 0 where
-  pub small : j < 32
-  pub no-edges : ¬ (j ≡ 13)
-  pub no-affinity : ¬ (j ≡ 16)
-  pub bpr0 : j ≡ 21 → 2 ≤ w
-  pub bpr1 : j ≡ 22 → 3 ≤ w
-
--- or outside the blocks, after the set-up
-pub record Outside (p : ℕ) : Type 0 where
-  pub past : 3 ≤ p
-  pub inside : p < stateLength
-  pub apart : (v j : ℕ) → v < 8 → j < 32 → ¬ (p ≡ block v + j)
-
-module _ (s : List ℕ) (h : Ready s) where
-  pub block-store : (v j w : ℕ) → v < vcpus s → Free j w → fits w (usedBits (count s) (vcpus s) (block v + j)) ≡ true → MayStore s (block v + j) w
-  block-store v j w l a f = record {
-    past = omega arith;
-    inside = omega (arith, h .few, a .small);
-    fit = f;
-    no-affinity = λ u k e. a .no-affinity (omega (arith, a .small));
-    edges = λ u k e. absurd (a .no-edges (omega (arith, a .small)));
-    bpr0 = λ u k e. a .bpr0 (omega (arith, a .small));
-    bpr1 = λ u k e. a .bpr1 (omega (arith, a .small));
-  }
-
-  pub outside-store : (p w : ℕ) → Outside p → fits w (usedBits (count s) (vcpus s) p) ≡ true → MayStore s p w
-  outside-store p w o f = record {
-    past = o .past;
-    inside = o .inside;
-    fit = f;
-    no-affinity = λ v l. o .apart v 16 (in-eight v l) (omega arith);
-    edges = λ v l e. absurd (o .apart v 13 (in-eight v l) (omega arith) e);
-    bpr0 = λ v l e. absurd (o .apart v 21 (in-eight v l) (omega arith) e);
-    bpr1 = λ v l e. absurd (o .apart v 22 (in-eight v l) (omega arith) e);
-  }
-    where
-      in-eight : (v : ℕ) → v < vcpus s → v < 8
-      in-eight v l = omega (arith, h .few)
 
 -- ---- words that fit a mask
 
@@ -214,7 +110,7 @@ module _ (s : List ℕ) (h : Ready s) where
     idle : (v : ℕ) → v < vcpus s → ¬ (p ≡ runningAt v)
 
   outside : (p : ℕ) → Outside p → Open p
-  outside p o = record { inside = o .inside; store = λ w f. outside-store s h p w o f; idle = λ v l. o .apart v 17 (omega (arith, h .few)) (omega arith) }
+  outside p o = record { inside = o .inside; store = λ w f. outside-store s (h .few) p w o (rw (word-used s (h .mark) p w) f); idle = λ v l. o .apart v 17 (omega (arith, h .few)) (omega arith) }
 
   in-bank : (w j : ℕ) → SpiWord s w → j < 16 → Open (256 + 16 * w + j)
   in-bank w j q l = outside (256 + 16 * w + j) (omega (arith, q .low, q .high, h .counted .most))
@@ -223,7 +119,7 @@ module _ (s : List ℕ) (h : Ready s) where
   in-block : (v j : ℕ) → v < vcpus s → j < 13 → Open (block v + j)
   in-block v j l m = record {
     inside = omega (arith, h .few);
-    store = λ w f. block-store s h v j w l (omega arith) f;
+    store = λ w f. block-store s (h .few) v j w l (omega arith) (rw (word-used s (h .mark) (block v + j) w) f);
     idle = λ u k e. omega arith;
   }
 
@@ -321,7 +217,7 @@ module _ (s : List ℕ) (h : Ready s) where
   stores-block v j w l a b f = record {
     stored = w;
     state = refl;
-    may = block-store s h v j w l b (rw (block-is s h v j l (b .small)) f);
+    may = block-store s (h .few) v j w l b (rw (word-used s (h .mark) (block v + j) w, block-is s h v j l (b .small)) f);
     idle = λ u k e. omega (arith, b .small);
   }
 
@@ -419,7 +315,7 @@ module _ (t : List ℕ) (ht : Fresh t) {a : Attribute} (m : Listed t a) (v : ℕ
   reads-so : readable t (attributeOf a) v ≡ true → ReadsSo t a v
   unfolding ReadsSo readable entryRead
   reads-so e =
-      (d, store-stopped t rt (placeOf m) w (p .may) (fresh-stopped t ht) (p .idle), same, there)
+      (d, store-stopped t (placeOf m) w (p .may) (fresh-stopped t ht) (p .idle), same, there)
     where
       p : Leaves t (placeOf m) (itemWrite t (namedBy m) v)
       p = put-leaves t rt m v
@@ -431,7 +327,7 @@ module _ (t : List ℕ) (ht : Fresh t) {a : Attribute} (m : Listed t a) (v : ℕ
       d = set t (placeOf m) w
 
       same : Alike t d
-      same = store-alike t rt (placeOf m) w (p .may)
+      same = store-same t (placeOf m) w (p .may) .alike
 
       -- the put leaves it, and it has the attribute at the same item
       put : itemWrite t (itemOf a t) v ≡ d
@@ -440,7 +336,7 @@ module _ (t : List ℕ) (ht : Fresh t) {a : Attribute} (m : Listed t a) (v : ℕ
       named : itemOf a d ≡ itemOf a t
       named =
           let c = carried t d same m in
-          names-item d (store-ready t rt (placeOf m) w (p .may)) (c .there) ∙ c .names ∙ sym (names-item t rt m)
+          names-item d (store-ready t (placeOf m) w (p .may) rt) (c .there) ∙ c .names ∙ sym (names-item t rt m)
 
       back : itemRead (itemWrite t (itemOf a t) v) (itemOf a t) ≡ v
       back = eqb-true _ v (both (takes (itemOf a t) v) _ e .1)

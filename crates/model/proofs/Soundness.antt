@@ -1,6 +1,6 @@
 -- A sound state, part by part: its length, its set-up, each vCPU, each word.
-use Prim.Native.Nat.{ℕ, _%_, _≤_, _<_}
-use mathlib.Core.Path.{_≡_, refl}
+use Prim.Native.Nat.{ℕ, _+_, _%_, _≤_, _<_}
+use mathlib.Core.Path.{_≡_, refl, _∙_}
 use mathlib.Core.Bool.{true, not, _&&_, _||_}
 use mathlib.Core.List.{List}
 use mathlib.Core.Logic.{⊎-elim}
@@ -9,8 +9,8 @@ use borrow.Author.Tests.{eqb-true, eq-eqb, leb-true, le-leb}
 use lib.Dec.{eqb, leb}
 use lib.ListN.{length}
 use Rattle.model.specs.Words.{every, allBelow}
-use Rattle.model.specs.Layout.{stateLength, mostVcpus, word, initialised, count, vcpus, bprAt, sgiEdgesAt, affinity, running}
-use Rattle.model.specs.Sound.{fits, usedBits, allowedBits, wordOk, isCount, setup, unused, vcpuOk, sound, stopped}
+use Rattle.model.specs.Layout.{stateLength, mostVcpus, word, initialised, count, vcpus, block, bprAt, sgiEdgesAt, affinity, running}
+use Rattle.model.specs.Sound.{fits, usedBits, freshBits, allowedBits, wordOk, isCount, setup, unused, vcpuOk, sound, stopped}
 use Rattle.model.specs.Demands.{Stopped}
 use Rattle.model.proofs.Tests.{both, and-true, either, or-right, every-at, every-all, below-at, below-all}
 
@@ -75,6 +75,10 @@ module _ (i c n : ℕ) (e : setup i c n ≡ true) where
   pub setup-vcpus : n ≤ 8
   setup-vcpus = leb-true n mostVcpus (parts .0 .1)
 
+  -- a count, or none yet
+  pub setup-counted : (eqb c 0 || isCount c) ≡ true
+  setup-counted = parts .1
+
   used : i ≡ 1 → (isCount c && leb 1 n) ≡ true
   used q = ⊎-elim (λ z. absurd (omega (arith, eqb-true i 0 z))) (λ z. z) (either (eqb i 0) (isCount c && leb 1 n) (parts .2))
 
@@ -83,6 +87,17 @@ module _ (i c n : ℕ) (e : setup i c n ≡ true) where
 
   pub setup-some : i ≡ 1 → 1 ≤ n
   setup-some q = leb-true 1 n (both (isCount c) (leb 1 n) (used q) .1)
+
+-- ---- the bits that a word may have before initialising, and after
+
+module _ (s : List ℕ) where
+  pub word-fresh : initialised s ≡ 0 → (k w : ℕ) → wordOk (initialised s) (count s) (vcpus s) k w ≡ fits w (freshBits (vcpus s) k)
+  unfolding wordOk allowedBits
+  word-fresh i k w = rw i
+
+  pub word-used : initialised s ≡ 1 → (k w : ℕ) → wordOk (initialised s) (count s) (vcpus s) k w ≡ fits w (usedBits (count s) (vcpus s) k)
+  unfolding wordOk allowedBits
+  word-used i k w = rw i
 
 -- ---- a sound, initialised device: its numbers, and the bits that each word may have
 
@@ -96,7 +111,6 @@ pub record Ready (s : List ℕ) : Type 0 where
   pub used : (k : ℕ) → k < stateLength → fits (word s k) (usedBits (count s) (vcpus s) k) ≡ true
 
 pub ready : (s : List ℕ) → sound s ≡ true → initialised s ≡ 1 → Ready s
-unfolding wordOk allowedBits
 ready s e i =
     let h = open-sound s e in
     record {
@@ -106,7 +120,7 @@ ready s e i =
       some = setup-some _ _ _ (h .set-up) i;
       few = setup-vcpus _ _ _ (h .set-up);
       each-vcpu = h .each-vcpu;
-      used = λ k l. rw i at (h .each-word k l);
+      used = λ k l. rw (word-used s i k (word s k)) at (h .each-word k l);
     }
 
 -- ---- a stopped one
@@ -147,6 +161,17 @@ close-vcpu s v h =
     and-true (and-true (and-true (eq-eqb _ _ (h .edges)) (le-leb 2 _ (h .bpr0))) (le-leb 3 _ (h .bpr1)))
     (below-all (λ u. not (eqb (affinity s u) (affinity s v))) v (h .distinct))
 
+-- it keeps that where the words of its block, and of those before it, stay
+pub vcpu-kept : (s t : List ℕ) (v : ℕ) → ((u j : ℕ) → u ≤ v → j < 32 → word t (block u + j) ≡ word s (block u + j)) → vcpuOk s v ≡ true → vcpuOk t v ≡ true
+vcpu-kept s t v same e =
+    let h = open-vcpu s v e in
+    close-vcpu t v (record {
+      edges = same v 13 (omega arith) (omega arith) ∙ h .edges;
+      bpr0 = rw (same v 21 (omega arith) (omega arith)) (h .bpr0);
+      bpr1 = rw (same v 22 (omega arith) (omega arith)) (h .bpr1);
+      distinct = λ u l. rw (same u 16 (omega arith) (omega arith), same v 16 (omega arith) (omega arith)) (h .distinct u l);
+    })
+
 -- ---- and back: such numbers and words make a sound state
 
 pub count-is : (c : ℕ) → Count c → isCount c ≡ true
@@ -154,13 +179,13 @@ unfolding isCount
 count-is c h = and-true (and-true (le-leb 64 c (h .least)) (le-leb c 1024 (h .most))) (eq-eqb (c % 32) 0 (h .step))
 
 pub ready-sound : (s : List ℕ) → Ready s → sound s ≡ true
-unfolding setup wordOk allowedBits
+unfolding setup
 ready-sound s h =
     close-sound s (record {
       size = h .size;
       set-up = rw (h .mark, count-is (count s) (h .counted), le-leb (vcpus s) 8 (h .few), le-leb 1 (vcpus s) (h .some)) (and-true (or-right (eqb (count s) 0) refl) refl);
       each-vcpu = h .each-vcpu;
-      each-word = λ k l. rw (h .mark) (h .used k l);
+      each-word = λ k l. rw (word-used s (h .mark) k (word s k)) (h .used k l);
     })
 
 pub running-stopped : (s : List ℕ) → initialised s ≡ 1 → ((v : ℕ) → v < vcpus s → running s v ≡ 0) → stopped s ≡ true
