@@ -9,6 +9,7 @@ use borrow.Author.Tests.{lt-ltb, le-ltb}
 use lib.Dec.{ltb}
 use lib.ListN.{getD, List·getD-eq-default}
 use lib.Seq.{ext-getD}
+use Rattle.model.specs.Words.{spread}
 use Rattle.model.specs.Layout.{stateLength, word, count, vcpus, block, running}
 use Rattle.model.specs.Sound.{usedBits, entry, headerBits, blockBits, bankBits, lastBankBits}
 use Rattle.model.specs.Attributes.{Attribute, attr, itemOf, itemRead}
@@ -19,7 +20,6 @@ use Rattle.model.proofs.Within.{fits-lt, fits-le, fits-none}
 use Rattle.model.proofs.Soundness.{stopped-ready, Ready, stopped-running, open-vcpu}
 use Rattle.model.proofs.Bits.{gather-lt}
 use Rattle.model.proofs.Masks.{entry-there, entry-absent, header-bits, block-bits, bank-bits, last-bits, route-none, SpiWord, header-word, block-word, bank-is}
-use Rattle.model.proofs.Readings.{spread}
 use Rattle.model.proofs.Listed.{Kept, groups, enables, latches, actives, offsetOf, Stored, pmr, ctlr, ap0r, ap1r, igrpen0, igrpen1, encodingOf, Listed, control, status, spi-flags, spi-lines, spi-priority, spi-config, spi-route, vcpu-status, vcpu-flags, vcpu-lines, vcpu-priority, vcpu-system, member, bpr0, bpr1}
 use Rattle.model.proofs.Places.{fieldOf, storedAt, field-small, stored-small, placeOf, Shape, itself, shown, shapeOf, roomOf, shown-once, namedBy, reads-place, edges}
 

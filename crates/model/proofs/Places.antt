@@ -9,7 +9,7 @@ use native.Mathlib.Omega.{arith}
 use borrow.Author.Tests.{eq-eqb, ne-eqb, lt-ltb, le-ltb, not-true}
 use lib.Dec.{eqb, ltb}
 use lib.ListN.{getD}
-use Rattle.model.specs.Words.{bit, lowest}
+use Rattle.model.specs.Words.{bit, lowest, spread}
 use Rattle.model.specs.Layout.{word, vcpus, block, bank, affinity, routeAt}
 use Rattle.model.specs.Registers.{decode, rows, read, flags, shownTo, statusAt, seenBy}
 use Rattle.model.specs.Interface.{system, systemIn, plainRead}
@@ -30,7 +30,7 @@ use Rattle.model.specs.declared.Item.the-variants.{Mapped, System, Namel
 use Rattle.model.proofs.Bits.{bit-gather, word-is}
 use Rattle.model.proofs.Soundness.{Ready, open-vcpu}
 use Rattle.model.proofs.Decode.{decode-group, decode-set-enable, decode-set-pending, decode-set-active, decode-priority, decode-config, decode-route, decode-control, decode-status, decode-frame-priority, decode-frame-status, decode-frame-group, decode-frame-set-enable, decode-frame-set-pending, decode-frame-set-active}
-use Rattle.model.proofs.Readings.{bank-at, spread, reads-spi-flags, reads-private-flags, reads-private-lines, reads-spi-priority, reads-private-priority, reads-spi-config, reads-route}
+use Rattle.model.proofs.Readings.{bank-at, reads-spi-flags, reads-private-flags, reads-private-lines, reads-spi-priority, reads-private-priority, reads-spi-config, reads-route}
 use Rattle.model.proofs.Listed.{Kept, groups, enables, latches, actives, offsetOf, Stored, pmr, ctlr, ap0r, ap1r, igrpen0, igrpen1, encodingOf, Listed, control, status, spi-flags, spi-lines, spi-priority, spi-config, spi-route, vcpu-status, vcpu-flags, vcpu-lines, vcpu-priority, vcpu-system, bpr0, bpr1}
 use Rattle.model.proofs.Masks.{SpiWord, fits-word}
 

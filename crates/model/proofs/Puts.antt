@@ -8,7 +8,7 @@ use native.Mathlib.Omega.{arith}
 use borrow.Author.Tests.{eqb-true, lt-ltb, le-leb}
 use lib.Dec.{eqb, ltb, leb}
 use lib.ListN.{getD, set}
-use Rattle.model.specs.Words.{bit, gather, within, allBelow}
+use Rattle.model.specs.Words.{bit, gather, within, allBelow, spread}
 use Rattle.model.specs.Layout.{word, count, vcpus, block, bank, routeAt}
 use Rattle.model.specs.Interrupts.{isPrivate, isSpi, flag, edge, priority}
 use Rattle.model.specs.Sound.{fits, usedBits, blockBits, bankBits, lastBankBits}
@@ -25,7 +25,7 @@ use Rattle.model.proofs.Tests.{both, implied, and-true, and-implied, be
 use Rattle.model.proofs.Within.{bit-none, fits-bit, fits-lt, fits-le, wider}
 use Rattle.model.proofs.Soundness.{Ready, open-vcpu}
 use Rattle.model.proofs.Masks.{route-bits, SpiWord, fits-word, header-word, block-word, bank-is}
-use Rattle.model.proofs.Readings.{spread, flag-bit, priority-bit, bank-at, flag-exists, priority-exists, edge-exists, private, line-ppi}
+use Rattle.model.proofs.Readings.{flag-bit, priority-bit, bank-at, flag-exists, priority-exists, edge-exists, private, line-ppi}
 use Rattle.model.proofs.Listed.{Listed, Kept, groups, enables, latches, actives, Stored, pmr, ctlr, ap0r, ap1r, igrpen0, igrpen1, control, status, spi-flags, spi-lines, spi-priority, spi-config, spi-route, vcpu-status, vcpu-flags, vcpu-lines, vcpu-priority, vcpu-system, bpr0, bpr1}
 use Rattle.model.proofs.Places.{storedAt, placeOf, shown, systemShape, shapeOf, plainOf, namedBy, spread-bit}
 use Rattle.model.proofs.Cover.{edge-words, spi-of, vcpu-of}

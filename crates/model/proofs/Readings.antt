@@ -8,7 +8,7 @@ use native.Mathlib.Omega.{arith}
 use borrow.Author.Tests.{lt-ltb, leb-true, le-leb, not-true}
 use lib.Dec.{eqb, leb}
 use lib.ListN.{getD}
-use Rattle.model.specs.Words.{bit, gather, allBelow}
+use Rattle.model.specs.Words.{bit, gather, allBelow, spread}
 use Rattle.model.specs.Layout.{word, count, vcpus, block, bank, routeAt}
 use Rattle.model.specs.Interrupts.{isPrivate, isSpi, flag, edge, priority}
 use Rattle.model.specs.Sound.{lastBankBits}
@@ -21,10 +21,6 @@ use Rattle.model.proofs.Tests.{and-true, and-implied, not-both, below-a
 use Rattle.model.proofs.Within.{bit-none, fits-bit}
 use Rattle.model.proofs.Soundness.{Ready}
 use Rattle.model.proofs.Masks.{SpiWord, fits-word, block-word, bank-bit}
-
--- sixteen edge flags as ICFGR reads them: each is the upper of two bits, the lower is 0
-unfoldable pub spread : ℕ → ℕ
-spread w = gather 32 (λ i. eqb (i % 2) 1 && bit w (i / 2))
 
 and-assoc : (a b c : Bool) → (a && b && c) ≡ (a && (b && c))
 and-assoc true b c = refl

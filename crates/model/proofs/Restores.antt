@@ -1,5 +1,5 @@
 -- Demand 3 by attributes: putting the listed attributes of a stopped device into a fresh one of the same set-up makes the two equal and for ever after alike.
-use Prim.Native.Nat.{ℕ, _+_, _*_, _-_, _/_, _%_, _≤_, _<_}
+use Prim.Native.Nat.{ℕ, _+_, _*_, _-_, _≤_, _<_}
 use mathlib.Core.Path.{_≡_, refl, sym, ap, _∙_, subst}
 use mathlib.Core.Bool.{true}
 use mathlib.Core.List.{List, [], _∷_, _++_, List·Memᴰ, List·Memᴰ·head, List·Memᴰ·tail, List·Memᴰ·not-nil}
@@ -11,17 +11,17 @@ use lib.ListN.{length, set, getD}
 use lib.Seq.{ext-getD}
 use Rattle.model.specs.Words.{every}
 use Rattle.model.specs.Layout.{stateLength, word, initialised, vcpus, block, running, isInitialised}
-use Rattle.model.specs.Sound.{fresh, fits, freshBits, freshBlockBits, entry}
+use Rattle.model.specs.Sound.{fresh, fits, freshBits, freshBlockBits}
 use Rattle.model.specs.Attributes.{Attribute, attr, item, itemRead, itemWrite, groupOf}
 use Rattle.model.specs.Calls.{Call, getAttribute, setAttribute, call, lentTo, acceptable, registerChecks, setChecks, checks, refusal, value, setState, next, after, trace}
 use Rattle.model.specs.declared.Refusal.the-variants.{None}
 use Rattle.model.specs.Demands.{Stopped, Fresh, Alike, Put, puts, Allowed, put, get, refused, Restoring, one, Whole, ByAttributes}
-use Rattle.model.specs.Demands as demands
 use Rattle.model.specs.declared.RegisterGroup.{RegisterGroup}
 use Rattle.model.specs.declared.AttributeGroup.the-variants.{Registers}
 use Rattle.model.proofs.Tests.{both, every-at}
 use Rattle.model.proofs.Within.{fits-none}
 use Rattle.model.proofs.Soundness.{stopped-ready, Ready, ready, stopped-running, running-stopped}
+use Rattle.model.proofs.Masks.{entry-there, fresh-block-bits}
 use Rattle.model.proofs.Refused.{none-of, tests-next, is-granted, is-refused, every-call, negative-errno}
 use Rattle.model.proofs.Listed.{Listed, groups, enables, latches, actives, control, status, spi-flags, spi-lines, spi-priority, spi-config, spi-route, vcpu-status, vcpu-flags, vcpu-lines, vcpu-priority, vcpu-system, family, member}
 use Rattle.model.proofs.Places.{placeOf, shown, shapeOf, namedBy, names-item, reads-place}
@@ -47,14 +47,10 @@ module _ (s : List ℕ) (h : Fresh s) where
 
   -- the block of a vCPU is zero but for its SGI edge flags, its affinity and its BPRs
   block-clear : (v j : ℕ) → v < vcpus s → j < 32 → getD freshBlockBits j 0 ≡ 0 → word s (block v + j) ≡ 0
-  unfolding freshBits entry
   block-clear v j l m e =
       let few = fresh-ready .few in
-      let d : (block v + j - 16) / 32 ≡ v = omega arith in
-      let r : (block v + j - 16) % 32 ≡ j = omega arith in
-      fits-none (word s (block v + j))
-      (rw (le-ltb (block v + j) 16 (omega arith), lt-ltb (block v + j) 272 (omega arith), d, lt-ltb v (vcpus s) l, r, e)
-      at (fresh-word s h (fresh-ready .size) (block v + j) (omega arith)))
+      let bits : freshBits (vcpus s) (block v + j) ≡ 0 = fresh-block-bits (vcpus s) v j (omega arith) m ∙ entry-there _ freshBlockBits j (lt-ltb v (vcpus s) l) ∙ e in
+      fits-none (word s (block v + j)) (rw bits at (fresh-word s h (fresh-ready .size) (block v + j) (omega arith)))
 
   -- banks and routes are zero
   rest-clear : (k : ℕ) → 272 ≤ k → k < stateLength → word s k ≡ 0
