@@ -1,4 +1,5 @@
-// The types that the definitions of specs/ and the code share. There is nothing to run.
+// The types that the definitions of specs/ and the code share, and the places of the state. There is nothing to run.
+pub mod layout;
 
 // The table of refusals.
 pub enum Errno {

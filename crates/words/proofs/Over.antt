@@ -8,10 +8,11 @@ use native.Mathlib.Decide.{ℕ-discrete}
 use native.Mathlib.Omega.{arith}
 use lib.Bits.{bitAnd, bitOr, and-step, and-self, and-le-r}
 use lib.Count.{trailingZeros, under}
-use lib.Dec.{eqb}
+use lib.Dec.{eqb, eqb·zero-suc, eqb·suc-zero, eqb·suc-suc}
 use lib.Pow.{shr-shr}
-use Rattle.model.specs.Words.{val, bit, lowest}
-use Rattle.model.proofs.Bits.{val-bit}
+use Rattle.model.specs.Words.{val, bit, withBit, lowest}
+use Rattle.model.proofs.Bits.{val-bit, word-is}
+use Rattle.model.proofs.Within.{bit-zero, bit-suc}
 use Rattle.words.specs.Words.{rest}
 use Rattle.words.proofs.Operators.{bit-or}
 
@@ -22,12 +23,16 @@ over f (suc n) i m a = over f n (suc i) (m / 2) (cond (eqb (m % 2) 1) (f i a) a)
 
 -- ---- the lowest bit, set or clear, and what is left without the lowest set one
 
+-- `rest` as the machine makes it (`lower-rest`)
+unfoldable pub lower : ℕ → ℕ
+lower m = bitAnd m (m - 1)
+
 data Low (m : ℕ) : Type 0 where
-  is-set : m % 2 ≡ 1 → rest m / 2 ≡ m / 2 → rest m % 2 ≡ 0 → Low m
-  is-clear : m % 2 ≡ 0 → 0 < m / 2 → rest m / 2 ≡ rest (m / 2) → rest m % 2 ≡ 0 → Low m
+  is-set : m % 2 ≡ 1 → lower m / 2 ≡ m / 2 → lower m % 2 ≡ 0 → Low m
+  is-clear : m % 2 ≡ 0 → 0 < m / 2 → lower m / 2 ≡ lower (m / 2) → lower m % 2 ≡ 0 → Low m
 
 low : (m : ℕ) → 0 < m → Low m
-unfolding rest
+unfolding lower
 low m p = go (ℕ-discrete (m % 2) 0)
   where
     go : Dec (m % 2 ≡ 0) → Low m
@@ -40,9 +45,9 @@ low m p = go (ℕ-discrete (m % 2) 0)
         let s : bitAnd m (m - 1) ≡ bitAnd (m / 2) (m / 2) * 2 + min (m % 2) ((m - 1) % 2) = rw h at (and-step m (m - 1)) in
         is-set (omega arith) (omega (arith, and-self (m / 2))) (omega (arith, and-self (m / 2)))
 
-pub rest-lt : (m : ℕ) → 0 < m → rest m < m
-unfolding rest
-rest-lt m p = omega (arith, and-le-r m (m - 1))
+pub lower-lt : (m : ℕ) → 0 < m → lower m < m
+unfolding lower
+lower-lt m p = omega (arith, and-le-r m (m - 1))
 
 -- ---- the place of the lowest set bit
 
@@ -68,8 +73,30 @@ lowest-bit f w e (suc n) i = rw (e i, lowest, ← val-bit w i) (go (rw half at (
     go ih false = ih ∙ omega arith
     go ih true = sym (add-zero i)
 
+lowest-word : (f : ℕ → Bool) (w : ℕ) → ((j : ℕ) → f j ≡ bit w j) → lowest f 32 0 ≡ trailingZeros 32 w
+lowest-word f w e = lowest-bit f w e 32 0 ∙ zero-add _ ∙ ap (trailingZeros 32) (div-one w)
+
 pub lowest-either : (a b : ℕ) → lowest (λ k. bit a k || bit b k) 32 0 ≡ trailingZeros 32 (bitOr a b)
-lowest-either a b = lowest-bit _ (bitOr a b) (λ j. sym (bit-or a b j)) 32 0 ∙ zero-add _ ∙ ap (trailingZeros 32) (div-one (bitOr a b))
+lowest-either a b = lowest-word _ (bitOr a b) (λ j. sym (bit-or a b j))
+
+-- ---- `m & (m - 1)` is m without its lowest set bit
+
+bit-lower : (n m j : ℕ) → 0 < m → m < 2 ^ n → bit (lower m) j ≡ cond (eqb j (trailingZeros n m)) false (bit m j)
+unfolding trailingZeros
+bit-lower zero m j p h = absurd (omega arith)
+bit-lower (suc n) m j p h = go j (λ i q. bit-lower n (m / 2) i q (omega (arith, pow-suc 2 n))) (low m p)
+  where
+    go : (j : ℕ) → ((i : ℕ) → 0 < m / 2 → bit (lower (m / 2)) i ≡ cond (eqb i (trailingZeros n (m / 2))) false (bit (m / 2) i))
+        → Low m → bit (lower m) j ≡ cond (eqb j (trailingZeros (suc n) m)) false (bit m j)
+    go zero ih (is-set e x y) = simp (bit-zero, e, y)
+    go zero ih (is-clear e q x y) = simp (bit-zero, e, y, eqb·zero-suc)
+    go (suc i) ih (is-set e x y) = simp (bit-suc, e, x, eqb·suc-zero)
+    go (suc i) ih (is-clear e q x y) = simp (bit-suc, e, x, eqb·suc-suc) (ih i q)
+
+-- so a law of `lower m` is one of `rest m`: `rw lower-rest at law`
+pub lower-rest : (m : ℕ) → 0 < m → m < 2 ^ 32 → lower m ≡ rest m
+unfolding rest withBit
+lower-rest m p h = word-is 32 (lower m) _ (omega (arith, lower-lt m p)) (λ j l. rw (lowest-word (bit m) m (λ i. refl)) (bit-lower 32 m j p h))
 
 -- ---- the walk
 
@@ -79,13 +106,13 @@ over-none f zero i a = refl
 over-none f (suc n) i a = over-none f n (suc i) a
 
 -- the lowest set bit first, and then the others
-pub over-next : (f : ℕ → ℕ → ℕ) (n i m a : ℕ) → 0 < m → m < 2 ^ n → over f n i m a ≡ over f n i (rest m) (f (i + trailingZeros n m) a)
+pub over-next : (f : ℕ → ℕ → ℕ) (n i m a : ℕ) → 0 < m → m < 2 ^ n → over f n i m a ≡ over f n i (lower m) (f (i + trailingZeros n m) a)
 unfolding over trailingZeros
 over-next f zero i m a p h = absurd (omega arith)
 over-next f (suc n) i m a p h = go (λ q. over-next f n (suc i) (m / 2) a q (omega (arith, pow-suc 2 n))) (low m p)
   where
-    go : (0 < m / 2 → over f n (suc i) (m / 2) a ≡ over f n (suc i) (rest (m / 2)) (f (suc i + trailingZeros n (m / 2)) a))
-        → Low m → over f (suc n) i m a ≡ over f (suc n) i (rest m) (f (i + trailingZeros (suc n) m) a)
+    go : (0 < m / 2 → over f n (suc i) (m / 2) a ≡ over f n (suc i) (lower (m / 2)) (f (suc i + trailingZeros n (m / 2)) a))
+        → Low m → over f (suc n) i m a ≡ over f (suc n) i (lower m) (f (i + trailingZeros (suc n) m) a)
     go ih (is-set e x y) = rw (e, x, y, add-zero)
     go ih (is-clear e q x y) = rw (e, x, y, add-suc, ← suc-add) (ih q)
 

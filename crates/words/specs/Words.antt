@@ -1,10 +1,9 @@
 -- What the functions on words give: each word by its bits.
-use Prim.Native.Nat.{ℕ, _+_, _*_, _-_, _/_, _%_, _^_}
-use mathlib.Core.Bool.{not, cond, _&&_, _||_}
+use Prim.Native.Nat.{ℕ, _+_, _*_, _/_, _%_, _^_}
+use mathlib.Core.Bool.{false, not, cond, _&&_, _||_}
 use mathlib.Core.List.{List}
-use lib.Bits.{bitAnd}
 use lib.Dec.{eqb, ltb, leb}
-use Rattle.model.specs.Words.{bit, gather}
+use Rattle.model.specs.Words.{bit, gather, withBit, lowest}
 use Rattle.model.specs.Layout.{word, latchField, lineField, edgeField}
 use Rattle.model.specs.Registers.{flagAfter}
 use Rattle.model.specs.declared.Rule.{Rule}
@@ -53,4 +52,4 @@ pendingIn b = gather 32 (λ i. bit (word b latchField) i || (not (bit (word b (e
 
 -- m, which is not 0, without its lowest set bit
 unfoldable pub rest : ℕ → ℕ
-rest m = bitAnd m (m - 1)
+rest m = withBit m (lowest (bit m) 32 0) false

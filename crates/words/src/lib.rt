@@ -1,5 +1,8 @@
 // Functions on words of 32 bits. Each contract cites a definition by bits or bytes.
 use model::Rule;
+use model::layout::EDGES;
+use model::layout::LATCH;
+use model::layout::LINE;
 ghost use mathlib.Core.Path.{_≡_};
 ghost use mathlib.Core.Bool.{_||_};
 ghost use Prim.Native.Nat.{_*_, _/_, _^_, _<_, _≤_};
@@ -7,13 +10,6 @@ ghost use lib.ListN.{length};
 ghost use Rattle.model.specs.Words.{bit, withBit, spread, lowest};
 ghost use Rattle.model.specs.declared.Rule.the-variants.{Replaces, Sets, Clears};
 ghost use Rattle.words.specs.Words.{under, priorityUnder, byteOf, byteAt, byteMask, collect, pendingWord, pendingIn, rest};
-
-// Where the latch, the line and the edge flags stand in a bank; the edge flags are two words.
-const LATCH: usize = 2;
-
-const LINE: usize = 4;
-
-const EDGE: usize = 13;
 
 // ---- one bit
 
@@ -136,7 +132,7 @@ pub fn pending_of(bank: &[u32]) -> u32
     requires { ⌜ length (now bank) ≡ 16 ⌝ }
     ensures { λ r. ⌜ r ≡ pendingIn (now (bank .entry)) ⌝ }
 {
-    pending_word(bank[LATCH], bank[LINE], bank[EDGE], bank[EDGE + 1])
+    pending_word(bank[LATCH], bank[LINE], bank[EDGES], bank[EDGES + 1])
 }
 
 // ---- set bits and low bits

@@ -1,0 +1,40 @@
+// Where the words of the lent state stand, as specs/Layout.antt says it.
+
+// The words of a state, and the most vCPUs that it has.
+pub const STATE_LENGTH: usize = 1760;
+
+pub const MOST_VCPUS: usize = 8;
+
+// The set-up.
+pub const INITIALISED: usize = 0;
+
+pub const COUNT: usize = 1;
+
+pub const VCPUS: usize = 2;
+
+// The blocks of the vCPUs from 16 on, the banks of the SPIs 32w to 32w + 31 at 256 + 16w, their routes from 768 on.
+pub const BLOCKS: usize = 16;
+
+pub const BLOCK_LENGTH: usize = 32;
+
+pub const BANKS: usize = 272;
+
+pub const BANK_LENGTH: usize = 16;
+
+pub const ROUTES: usize = 768;
+
+// The words of a bank; the edge flags are two.
+pub const LATCH: usize = 2;
+
+pub const LINE: usize = 4;
+
+pub const EDGES: usize = 13;
+
+// The words of a block after its bank.
+pub const AFFINITY: usize = 16;
+
+pub const RUNNING: usize = 17;
+
+pub const BPR0: usize = 21;
+
+pub const BPR1: usize = 22;
