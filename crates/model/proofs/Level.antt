@@ -1,14 +1,13 @@
 -- Where IARg gives an interrupt, the bit of its group priority is clear in APgR: a read of a system register is never refused with EIO.
-use Prim.Native.Nat.{ℕ, zero, suc, _*_, _≤_, _<_}
+use Prim.Native.Nat.{ℕ, zero, suc, _*_, _<_}
 use mathlib.Core.Path.{_≡_, refl}
 use mathlib.Core.Bool.{Bool, true, false, not, cond, _&&_, _||_, true≢false}
 use mathlib.Core.List.{List, _∷_}
 use native.Mathlib.Omega.{arith}
-use native.Mathlib.Decide.{decLt}
 use borrow.Author.Tests.{ltb-true}
 use lib.Dec.{eqb, ltb}
 use lib.IntN.{pos, negℤ}
-use Rattle.model.specs.Words.{bit, lowest}
+use Rattle.model.specs.Words.{bit}
 use Rattle.model.specs.Layout.{word, isInitialised, pmrAt, aprAt, running}
 use Rattle.model.specs.Interface.{system, best, nothing, found, rankPriority, groupPriority, runningLevel, ofGroup, gives, offered, levelOf, levelClear, systemReadClear}
 use Rattle.model.specs.Refusals.{Check, firstFailing, errno}
@@ -21,23 +20,13 @@ use Rattle.model.specs.declared.Readable.{Readable}
 use Rattle.model.specs.declared.Readable.the-variants.{Iar, Hppir, Rpr}
 use Rattle.model.specs.declared.SystemRegister.{SystemRegister}
 use Rattle.model.specs.declared.SystemRegister.the-variants.{Both, Read, Write, Unnamed}
-use Rattle.model.proofs.Tests.{both}
+use Rattle.model.proofs.Tests.{both, below-lowest}
 use Rattle.model.proofs.Decode.{groupIn, system-group}
 use Rattle.model.proofs.Refused.{negative-errno}
 
 or-false : (a b : Bool) → (a || b) ≡ false → (a ≡ false) × (b ≡ false)
 or-false true b e = absurd (true≢false e)
 or-false false b e = (refl, e)
-
--- below the lowest number at which a test holds it does not hold
-below-lowest : (f : ℕ → Bool) (n i j : ℕ) → i ≤ j → j < lowest f n i → f j ≡ false
-unfolding lowest
-below-lowest f zero i j l h = absurd (omega arith)
-below-lowest f (suc n) i j l h = step (f i) refl h (below-lowest f n (suc i) j)
-  where
-    step : (t : Bool) → f i ≡ t → j < elim t [ true ↦ i | false ↦ lowest f n (suc i) ] → (suc i ≤ j → j < lowest f n (suc i) → f j ≡ false) → f j ≡ false
-    step true e q ih = absurd (omega arith)
-    step false e q ih = elim (decLt i j) [ yes k ↦ ih k q | no k ↦ let same : j ≡ i = omega arith in rw same e ]
 
 module _ (s : List ℕ) (v g b : ℕ) where
   below-running : gives s v g b ≡ true → levelOf s v g b < runningLevel s v

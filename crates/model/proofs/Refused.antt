@@ -180,9 +180,9 @@ refuse-is c s e a h = sym (tests-next c s a ∙ fails-first h)
 pub none-is : (c : Call) (s : List ℕ) → acceptable (lentTo c) s ≡ true → Holds (checks c s) → None ≡ refusal c s
 none-is c s a h = sym (tests-next c s a ∙ holds-first h)
 
-pub refuses : (c : Call) (s : List ℕ) (e : Errno) → Refuse e ≡ refusal c s → Does (call c s) (number (Refused e)) s (lentBytes (lentTo c))
+pub refuses : (c : Call) (s b : List ℕ) (e : Errno) → Refuse e ≡ refusal c s → b ≡ lentBytes (lentTo c) → Does (call c s) (number (Refused e)) s b
 unfolding number
-refuses c s e h = rw (refused c s e (sym h)) (record { answer = refl; state = refl; buffer = refl })
+refuses c s b e h r = rw (refused c s e (sym h)) (record { answer = refl; state = refl; buffer = r })
 
 pub grants : (c : Call) (s : List ℕ) (v : ℕ) (t b : List ℕ) → None ≡ refusal c s → v ≡ value c s → t ≡ next c s → b ≡ filled (lentTo c) s → Does (call c s) (number (Value v)) t b
 unfolding number

@@ -1,11 +1,11 @@
 -- Laws of the tests: `&&`, `||`, `every`, `allBelow`, `lowest`.
-use Prim.Native.Nat.{ℕ, zero, suc, _+_, _<_}
+use Prim.Native.Nat.{ℕ, zero, suc, _+_, _≤_, _<_}
 use mathlib.Core.Path.{_≡_, refl, sym, _∙_}
 use mathlib.Core.Bool.{Bool, true, false, not, _&&_, _||_, true≢false}
 use mathlib.Core.List.{List, [], _∷_}
 use mathlib.Core.Logic.{_⊎_, inl, inr}
 use native.Mathlib.Nat.{add-zero, zero-add}
-use native.Mathlib.Decide.{ℕ-discrete}
+use native.Mathlib.Decide.{ℕ-discrete, decLt}
 use native.Mathlib.Omega.{arith}
 use lib.ListN.{length, getD}
 use Rattle.model.specs.Words.{every, allBelow, lowest}
@@ -98,3 +98,13 @@ module _ (f : ℕ → Bool) where
           → elim t [ true ↦ i | false ↦ lowest f n (suc i) ] < i + suc n → f (elim t [ true ↦ i | false ↦ lowest f n (suc i) ]) ≡ true
       step true e ih l = e
       step false e ih l = ih (omega arith)
+
+  -- below it the test does not hold
+  pub below-lowest : (n i j : ℕ) → i ≤ j → j < lowest f n i → f j ≡ false
+  unfolding lowest
+  below-lowest zero i j l h = absurd (omega arith)
+  below-lowest (suc n) i j l h = step (f i) refl h (below-lowest n (suc i) j)
+    where
+      step : (t : Bool) → f i ≡ t → j < elim t [ true ↦ i | false ↦ lowest f n (suc i) ] → (suc i ≤ j → j < lowest f n (suc i) → f j ≡ false) → f j ≡ false
+      step true e m ih = absurd (omega arith)
+      step false e m ih = elim (decLt i j) [ yes k ↦ ih k m | no k ↦ let same : j ≡ i = omega arith in rw same e ]

@@ -1,0 +1,3 @@
+-- The laws of the set-up calls.
+pub mod Written
+pub mod Admitted

@@ -1,0 +1,16 @@
+-- `setup::initialise` meets its contract.
+use Rattle.model.specs.Attributes.{groupOf}
+use Rattle.model.specs.Calls.{lentTo, lentBytes, filled, value, next, setState}
+use Rattle.setup.proofs.Admitted.{answering, initialise-admitted}
+use borrow.Author.Needs.{needs}
+use Rattle.setup.proofs.initialise.Statement.{statement}
+use Rattle.setup.proofs.initialise.Tie as tie
+
+write-initialised-requires : tie.Need-write-initialised-requires
+write-initialised-requires c κs = initialise-admitted _ _ _ _ (c .before .before .before .initialise-refusal .ensures) (c .before .enum-told .given .1)
+
+pub initialise-spec : {M : Type 1} → statement M
+initialise-spec =
+    tie.close
+    (tie.spec (λ c κs. search needs) (λ c. search needs) (λ c. search needs) (λ c. unfold lentTo lentBytes in (search answering)) (λ c. search needs)
+    write-initialised-requires (λ c. search needs) (λ c. unfold lentTo filled value next setState groupOf in (search answering)))

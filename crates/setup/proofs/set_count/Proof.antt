@@ -1,0 +1,20 @@
+-- `setup::set_count` meets its contract.
+use Rattle.model.specs.Attributes.{groupOf}
+use Rattle.model.specs.Calls.{lentTo, lentBytes, filled, value, next, setState}
+use native.Mathlib.Omega.{arith}
+use Rattle.setup.proofs.Admitted.{answering, count-admitted}
+use borrow.Author.Needs.{needs}
+use Rattle.setup.proofs.set_count.Statement.{statement}
+use Rattle.setup.proofs.set_count.Tie as tie
+
+cast-s : tie.Need-cast-s
+cast-s c = record { fits = omega (arith, count-admitted _ _ _ _ (c .before .before .count-refusal .ensures) (c .enum-told .given .1) .1) }
+
+slice-write-s : tie.Need-slice-write-s
+slice-write-s c = omega (arith, count-admitted _ _ _ _ (c .before .before .count-refusal .ensures) (c .enum-told .given .1) .0)
+
+pub set-count-spec : {M : Type 1} → statement M
+set-count-spec =
+    tie.close
+    (tie.spec (λ c κs. search needs) (λ c. search needs) (λ c. search needs) (λ c. unfold lentTo lentBytes in (search answering)) (λ c. search needs)
+    cast-s slice-write-s (λ c. search needs) (λ c. unfold lentTo filled value next setState groupOf in (search answering)))

@@ -1,0 +1,15 @@
+-- `setup::set_running` meets its contract.
+use Rattle.model.specs.Calls.{lentTo, lentBytes, filled, value, next}
+use Rattle.setup.proofs.Admitted.{answering, running-admitted}
+use borrow.Author.Needs.{needs}
+use Rattle.setup.proofs.set_running.Statement.{statement}
+use Rattle.setup.proofs.set_running.Tie as tie
+
+write-running-requires : tie.Need-write-running-requires
+write-running-requires c κs = running-admitted _ _ _ _ (c .before .before .before .running-refusal .ensures) (c .before .enum-told .given .1)
+
+pub set-running-spec : {M : Type 1} → statement M
+set-running-spec =
+    tie.close
+    (tie.spec (λ c κs. search needs) (λ c. search needs) (λ c. search needs) (λ c. unfold lentTo lentBytes in (search answering)) (λ c. search needs)
+    write-running-requires (λ c. search needs) (λ c. unfold lentTo filled value next in (search answering)))

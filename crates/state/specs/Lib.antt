@@ -1,0 +1,3 @@
+-- What the contracts cite beside the definitions of model.
+pub mod Clear
+pub mod Lookup

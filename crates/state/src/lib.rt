@@ -1,0 +1,256 @@
+// The lent state: lookup between vCPU index and affinity, the places of the parts that are lent on, and the test whether it is sound.
+mod masks;
+
+use model::layout::AFFINITY;
+use model::layout::BANK_LENGTH;
+use model::layout::BANKS;
+use model::layout::BLOCK_LENGTH;
+use model::layout::BLOCKS;
+use model::layout::BPR0;
+use model::layout::BPR1;
+use model::layout::COUNT;
+use model::layout::EDGES;
+use model::layout::INITIALISED;
+use model::layout::MOST_VCPUS;
+use model::layout::ROUTES;
+use model::layout::STATE_LENGTH;
+use model::layout::VCPUS;
+ghost use mathlib.Core.Path.{_≡_};
+ghost use mathlib.Core.Bool.{true};
+ghost use Prim.Native.Nat.{_+_, _-_, _%_, _≤_, _<_};
+ghost use lib.Dec.{eqb};
+ghost use lib.ListN.{length};
+ghost use Rattle.model.specs.Words.{lowest, allBelow, every};
+ghost use Rattle.model.specs.Layout.{stateLength, mostVcpus, vcpus, affinity, block, bank};
+ghost use Rattle.model.specs.Sound.{usedBits, freshBits, fits, wordOk, isCount, setup, isAffinity, unused, vcpuOk, sound};
+ghost use Rattle.state.specs.Clear.{Apart, Clear};
+ghost use Rattle.state.specs.Lookup.{found};
+
+// The index of a vCPU, from 0 up in the order added.
+pub struct VcpuIndex(pub usize);
+
+// An affinity Aff3.Aff2.Aff1.Aff0 as one number.
+pub struct Mpidr(pub u32);
+
+// What lookup of an affinity finds.
+pub enum Found {
+    At(VcpuIndex),
+    Nowhere,
+}
+
+// ---- numbers that a call is given
+
+// Aff3 is 0 and Aff0 at most 15.
+pub fn is_affinity(a: Mpidr) -> bool
+    ensures { λ r. ⌜ r ≡ isAffinity (a .0) ⌝ }
+{
+    (a.0 < 0x0100_0000) & (a.0 % 256 <= 15)
+}
+
+// 64 to 1024 in steps of 32.
+pub fn is_count(c: u64) -> bool
+    ensures { λ r. ⌜ r ≡ isCount c ⌝ }
+{
+    (64 <= c) & (c <= 1024) & (c % 32 == 0)
+}
+
+// ---- lookup
+
+// The first of `n` vCPUs whose affinity is `a`, or `n`.
+fn first_with(s: &[u32], a: u32, n: usize) -> usize
+    requires { ⌜ (length (now s) ≡ stateLength) × (n ≤ mostVcpus) ⌝ }
+    ensures { λ r. ⌜ (r ≡ lowest (λ v. eqb (affinity (now (s .entry)) v) a) n 0) × (r ≤ n) ⌝ }
+{
+    let mut v: usize = 0;
+    while v < n {
+        if s[BLOCKS + BLOCK_LENGTH * v + AFFINITY] == a {
+            return v;
+        }
+        v += 1;
+    }
+    v
+}
+
+// None of the first `n` vCPUs has the affinity.
+pub fn is_unused(s: &[u32], mpidr: Mpidr, n: usize) -> bool
+    requires { ⌜ (length (now s) ≡ stateLength) × (n ≤ mostVcpus) ⌝ }
+    ensures { λ r. ⌜ r ≡ unused (now (s .entry)) (mpidr .0) n ⌝ }
+{
+    first_with(s, mpidr.0, n) == n
+}
+
+// The vCPU that has an affinity.
+pub fn index_of(s: &[u32], mpidr: Mpidr) -> Found
+    requires { ⌜ (length (now s) ≡ stateLength) × (vcpus (now s) ≤ mostVcpus) ⌝ }
+    ensures { λ r. ⌜ r ≡ found (now (s .entry)) (mpidr .0) ⌝ }
+{
+    let n = wide(s[VCPUS]);
+    let v = first_with(s, mpidr.0, n);
+    if v < n {
+        return Found::At(VcpuIndex(v));
+    }
+    Found::Nowhere
+}
+
+// The affinity of vCPU `v`.
+pub fn affinity_of(s: &[u32], v: VcpuIndex) -> Mpidr
+    requires { ⌜ (length (now s) ≡ stateLength) × (v .0 < mostVcpus) ⌝ }
+    ensures { λ r. ⌜ r .0 ≡ affinity (now (s .entry)) (v .0) ⌝ }
+{
+    Mpidr(s[block_at(v) + AFFINITY])
+}
+
+// ---- the parts that are lent on as `&mut`: a vCPU's block, and a bank
+
+// Where the block of vCPU `v` starts.
+pub fn block_at(v: VcpuIndex) -> usize
+    requires { ⌜ v .0 < mostVcpus ⌝ }
+    ensures { λ r. ⌜ (r ≡ block (v .0)) × (r + 32 ≤ 272) ⌝ }
+{
+    BLOCKS + BLOCK_LENGTH * v.0
+}
+
+// Where the bank of the interrupts 32w to 32w + 31 starts, as vCPU `v` sees it.
+pub fn bank_at(v: VcpuIndex, w: usize) -> usize
+    requires { ⌜ (v .0 < mostVcpus) × (w < 32) ⌝ }
+    ensures { λ r. ⌜ (r ≡ bank (v .0) w) × (r + 16 ≤ 768) ⌝ }
+{
+    if w == 0 {
+        return block_at(v);
+    }
+    256 + BANK_LENGTH * w
+}
+
+// ---- soundness
+
+// The numbers of the set-up go together.
+fn setup_ok(initialised: usize, count: usize, n: usize) -> bool
+    ensures { λ r. ⌜ r ≡ setup initialised count n ⌝ }
+{
+    let counted = is_count(count as u64);
+    (initialised <= 1)
+        & (n <= MOST_VCPUS)
+        & ((count == 0) | counted)
+        & ((initialised == 0) | (counted & (1 <= n)))
+}
+
+// The SGIs of vCPU `v` are edge, BPR0 and BPR1 have at least their least values, and no earlier vCPU has its affinity.
+fn vcpu_ok(s: &[u32], v: usize) -> bool
+    requires { ⌜ (length (now s) ≡ stateLength) × (v < mostVcpus) ⌝ }
+    ensures { λ r. ⌜ r ≡ vcpuOk (now (s .entry)) v ⌝ }
+{
+    let block = BLOCKS + BLOCK_LENGTH * v;
+    let unused = is_unused(s, Mpidr(s[block + AFFINITY]), v);
+    (s[block + EDGES] == 0xffff) & (2 <= s[block + BPR0]) & (3 <= s[block + BPR1]) & unused
+}
+
+// The same for each of `n` vCPUs.
+fn vcpus_ok(s: &[u32], n: usize) -> bool
+    requires { ⌜ (length (now s) ≡ stateLength) × (n ≤ mostVcpus) ⌝ }
+    ensures { λ r. ⌜ r ≡ allBelow (vcpuOk (now (s .entry))) n ⌝ }
+{
+    let mut ok = true;
+    let mut v: usize = 0;
+    while v < n {
+        ok = vcpu_ok(s, v) & ok;
+        v += 1;
+    }
+    ok
+}
+
+// The bits that the words of `s` from `at` on share with those of `row`, joined.
+fn misfit_row(s: &[u32], at: usize, row: &[u32]) -> u32
+    requires { ⌜ (length (now s) ≡ stateLength) × (at + length (now row) ≤ stateLength) ⌝ }
+    ensures { λ r. ⌜ Clear (Apart (now (s .entry)) (now (row .entry)) at) at (at + length (now (row .entry))) r ⌝ }
+{
+    let mut joined: u32 = 0;
+    let mut j: usize = 0;
+    while j < row.len() {
+        joined = joined | (s[at + j] & row[j]);
+        j += 1;
+    }
+    joined
+}
+
+// The same from `a` up to `e`, with the row again and again. No branch in the loops: LLVM unrolls the row and makes vector code of it.
+fn misfit(s: &[u32], a: usize, e: usize, row: &[u32]) -> u32
+    requires { ⌜ (length (now s) ≡ stateLength) × (a ≤ e) × (e ≤ stateLength) × ((e - a) % length (now row) ≡ 0) ⌝ }
+    ensures { λ r. ⌜ Clear (Apart (now (s .entry)) (now (row .entry)) a) a e r ⌝ }
+{
+    let mut joined: u32 = 0;
+    let mut i = a;
+    while i < e {
+        joined = joined | misfit_row(s, i, row);
+        i += row.len();
+    }
+    joined
+}
+
+// Each word has only the bits that it may have in an initialised device.
+fn used_fits(s: &[u32], count: usize, n: usize) -> bool
+    requires { ⌜ (length (now s) ≡ stateLength) × (64 ≤ count) × (count ≤ 1024) × (count % 32 ≡ 0) × (n ≤ mostVcpus) ⌝ }
+    ensures { λ r. ⌜ r ≡ every (λ k w. fits w (usedBits count n k)) 0 (now (s .entry)) ⌝ }
+{
+    // 1 where the interrupts from 992 on exist, but for the last four: their bank has a row of its own.
+    let last = count / 1024;
+    let blocks_end = BLOCKS + BLOCK_LENGTH * n;
+    let banks_end = BANKS + BANK_LENGTH * (count / 32 - 1 - last);
+    let last_end = banks_end + BANK_LENGTH * last;
+    let routes_end = ROUTES + (count - 32 - 4 * last);
+    let joined = misfit(s, 0, BLOCKS, &masks::HEADER)
+        | misfit(s, BLOCKS, blocks_end, &masks::BLOCK)
+        | misfit(s, blocks_end, BANKS, &masks::ABSENT)
+        | misfit(s, BANKS, banks_end, &masks::BANK)
+        | misfit(s, banks_end, last_end, &masks::LAST_BANK)
+        | misfit(s, last_end, ROUTES, &masks::ABSENT)
+        | misfit(s, ROUTES, routes_end, &masks::ROUTE)
+        | misfit(s, routes_end, STATE_LENGTH, &masks::ABSENT);
+    joined == 0
+}
+
+// Each word has only the bits that it may have in a fresh device.
+pub fn fresh_fits(s: &[u32], n: usize) -> bool
+    requires { ⌜ (length (now s) ≡ stateLength) × (n ≤ mostVcpus) ⌝ }
+    ensures { λ r. ⌜ r ≡ every (λ k w. fits w (freshBits n k)) 0 (now (s .entry)) ⌝ }
+{
+    let blocks_end = BLOCKS + BLOCK_LENGTH * n;
+    let joined = misfit(s, 0, BLOCKS, &masks::FRESH_HEADER)
+        | misfit(s, BLOCKS, blocks_end, &masks::FRESH_BLOCK)
+        | misfit(s, blocks_end, STATE_LENGTH, &masks::ABSENT);
+    joined == 0
+}
+
+// Each word has only the bits that it may have: the fresh ones before initialising.
+fn words_fit(s: &[u32], initialised: usize, count: usize, n: usize) -> bool
+    requires { ⌜ (length (now s) ≡ stateLength) × (setup initialised count n ≡ true) ⌝ }
+    ensures { λ r. ⌜ r ≡ every (wordOk initialised count n) 0 (now (s .entry)) ⌝ }
+{
+    if initialised == 0 {
+        fresh_fits(s, n)
+    } else {
+        used_fits(s, count, n)
+    }
+}
+
+// A word as a number of the machine's width.
+fn wide(x: u32) -> usize
+    ensures { λ r. ⌜ r ≡ x ⌝ }
+{
+    x as usize
+}
+
+// The words are a sound state.
+pub fn is_sound(s: &[u32]) -> bool
+    ensures { λ r. ⌜ r ≡ sound (now (s .entry)) ⌝ }
+{
+    if s.len() != STATE_LENGTH {
+        return false;
+    }
+    let initialised = wide(s[INITIALISED]);
+    let count = wide(s[COUNT]);
+    let n = wide(s[VCPUS]);
+    if !setup_ok(initialised, count, n) {
+        return false;
+    }
+    vcpus_ok(s, n) & words_fit(s, initialised, count, n)
+}

@@ -1,0 +1,3 @@
+-- The laws of the public calls.
+pub mod Numbers
+pub mod Shape
