@@ -7,12 +7,12 @@ use native.Mathlib.Omega.{arith}
 use borrow.Author.Tests.{ltb-true, eq-eqb, ne-eqb}
 use lib.Dec.{eqb, lit<}
 use lib.ListN.{length}
-use mir.Syntax.{w64}
+use mir.Syntax.{w32, w64}
 use mir.Val.{Fits}
 use Rattle.model.specs.Layout.{stateLength, mostVcpus, initialised, count, vcpus}
 use Rattle.model.specs.Sound.{sound}
 use Rattle.model.specs.Attributes.{groupOf}
-use Rattle.model.specs.Calls.{Call, call, refusal, addVcpu, setRunning, setAttribute, lentTo, acceptable, checks, setChecks}
+use Rattle.model.specs.Calls.{Call, call, refusal, addVcpu, setRunning, setAttribute, aDevice, lentTo, acceptable, checks, setChecks}
 use Rattle.model.specs.declared.Refusal.{Refusal}
 use Rattle.model.specs.declared.Refusal.the-variants.{None}
 use Rattle.model.proofs.Soundness.{sound-length, open-sound, setup-vcpus, is-count}
@@ -46,29 +46,28 @@ ne-not a b n = rw (ne-eqb a b n)
 pub told : (c : Call) (s : List ℕ) (r q : Refusal) → r ≡ refusal c s → r ≡ q → q ≡ refusal c s
 told c s r q e h = sym h ∙ e
 
--- what its writer asks
-module _ (s : List ℕ) (r : Refusal) where
-  pub add-admitted : (a : ℕ) → r ≡ refusal (addVcpu a) s → r ≡ None → (length s ≡ stateLength) × (vcpus s < mostVcpus)
-  unfolding lentTo acceptable checks
-  add-admitted a e n =
-      let p = unrefused (addVcpu a) s (sym e ∙ n) in
-      (sound-length s (p .0), ltb-true (vcpus s) mostVcpus (p .1 .1 .1 .1 .0))
+-- what its writer asks, of a state t that is s
+module _ (s t : List ℕ) (r : Refusal) where
+  pub admitted-size : (c : Call) → r ≡ refusal c s → r ≡ None → lentTo c ≡ aDevice → t ≡ s → length t ≡ stateLength
+  unfolding acceptable
+  admitted-size c e n l q = rw q (sound-length s (rw l at (unrefused c s (sym e ∙ n) .0)))
 
-  pub count-admitted : (a x : ℕ) → r ≡ refusal (setAttribute 3 a x) s → r ≡ None → (length s ≡ stateLength) × (x ≤ 1024)
-  unfolding lentTo acceptable checks setChecks groupOf
-  count-admitted a x e n =
-      let p = unrefused (setAttribute 3 a x) s (sym e ∙ n) in
-      (sound-length s (p .0), is-count x (p .1 .0) .most)
+  pub admitted-inside : (c : Call) (i : ℕ) → r ≡ refusal c s → r ≡ None → lentTo c ≡ aDevice → t ≡ s → i < stateLength → i < length t
+  admitted-inside c i e n l q k = omega (arith, admitted-size c e n l q)
 
-  pub initialise-admitted : (a x : ℕ) → r ≡ refusal (setAttribute 4 a x) s → r ≡ None → length s ≡ stateLength
-  unfolding lentTo acceptable
-  initialise-admitted a x e n = sound-length s (unrefused (setAttribute 4 a x) s (sym e ∙ n) .0)
+  pub add-room : (a : ℕ) → r ≡ refusal (addVcpu a) s → r ≡ None → t ≡ s → vcpus t < mostVcpus
+  unfolding checks
+  add-room a e n q = rw q (ltb-true (vcpus s) mostVcpus (unrefused (addVcpu a) s (sym e ∙ n) .1 .1 .1 .1 .0))
 
-  pub running-admitted : (v : ℕ) (on : Bool) → r ≡ refusal (setRunning v on) s → r ≡ None → (length s ≡ stateLength) × (v < mostVcpus)
-  unfolding lentTo acceptable checks
-  running-admitted v on e n =
-      let p = unrefused (setRunning v on) s (sym e ∙ n) in
-      (sound-length s (p .0), omega (arith, ltb-true v (vcpus s) (p .1 .1 .0), few s (p .0)))
+pub count-fits : (s : List ℕ) (r : Refusal) (a x : ℕ) → r ≡ refusal (setAttribute 3 a x) s → r ≡ None → Fits w32 x
+unfolding checks setChecks groupOf
+count-fits s r a x e n = record { fits = omega (arith, is-count x (unrefused (setAttribute 3 a x) s (sym e ∙ n) .1 .0) .most) }
+
+pub running-inside : (s : List ℕ) (r : Refusal) (v : ℕ) (on : Bool) → r ≡ refusal (setRunning v on) s → r ≡ None → v < mostVcpus
+unfolding lentTo acceptable checks
+running-inside s r v on e n =
+    let p = unrefused (setRunning v on) s (sym e ∙ n) in
+    omega (arith, ltb-true v (vcpus s) (p .1 .1 .0), few s (p .0))
 
 -- ---- `search inside` finds what the test for soundness says, `search refusing` which refusal a branch has come to, `search answering` what a call does by it
 pub ruleset inside = (sound-inside, sound-size, sound-few, sound-fits, lit<)

@@ -494,23 +494,7 @@ const STARTED: [u32; 54] = [
 ];
 
 // The same of a device just made.
-const EMPTY: [u32; 15] = [
-    0,
-    0,
-    1,
-    1,
-    0x400,
-    0x420,
-    2,
-    0,
-    1,
-    16,
-    0,
-    1,
-    37,
-    0,
-    2,
-];
+const EMPTY: [u32; 15] = [0, 0, 1, 1, 0x400, 0x420, 2, 0, 1, 16, 0, 1, 37, 0, 2];
 
 // Places of the first where any word may stand.
 const WHOLE: [usize; 11] = [16, 17, 18, 19, 39, 40, 272, 273, 274, 275, 276];

@@ -1,15 +1,20 @@
 -- `setup::add_vcpu` meets its contract.
 use Rattle.model.specs.Calls.{lentTo, lentBytes, filled, value, next}
-use Rattle.setup.proofs.Admitted.{answering, add-admitted}
+use Rattle.setup.proofs.Admitted.{answering, admitted-size, add-room}
 use borrow.Author.Needs.{needs}
 use Rattle.setup.proofs.add_vcpu.Statement.{statement}
 use Rattle.setup.proofs.add_vcpu.Tie as tie
 
+returns : tie.Need-returns
+unfolding lentTo lentBytes
+returns c = search answering
+
 write-vcpu-requires : tie.Need-write-vcpu-requires
-write-vcpu-requires c κs = add-admitted _ _ _ (c .before .before .before .add-refusal .ensures) (c .before .enum-told .given .1)
+unfolding lentTo
+write-vcpu-requires c κs = (search admitted-size, search add-room)
 
 pub add-vcpu-spec : {M : Type 1} → statement M
 add-vcpu-spec =
     tie.close
-    (tie.spec (λ c κs. search needs) (λ c. search needs) (λ c. search needs) (λ c. unfold lentTo lentBytes in (search answering)) (λ c. search needs)
+    (tie.spec (λ c κs. search needs) (λ c. search needs) (λ c. search needs) returns (λ c. search needs)
     write-vcpu-requires (λ c. search needs) (λ c. unfold lentTo filled value next in (search answering)))

@@ -1,13 +1,14 @@
 -- `setup::initialise` meets its contract.
 use Rattle.model.specs.Attributes.{groupOf}
 use Rattle.model.specs.Calls.{lentTo, lentBytes, filled, value, next, setState}
-use Rattle.setup.proofs.Admitted.{answering, initialise-admitted}
+use Rattle.setup.proofs.Admitted.{answering, admitted-size}
 use borrow.Author.Needs.{needs}
 use Rattle.setup.proofs.initialise.Statement.{statement}
 use Rattle.setup.proofs.initialise.Tie as tie
 
 write-initialised-requires : tie.Need-write-initialised-requires
-write-initialised-requires c κs = initialise-admitted _ _ _ _ (c .before .before .before .initialise-refusal .ensures) (c .before .enum-told .given .1)
+unfolding lentTo
+write-initialised-requires c κs = search admitted-size
 
 pub initialise-spec : {M : Type 1} → statement M
 initialise-spec =

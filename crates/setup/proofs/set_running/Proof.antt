@@ -1,12 +1,13 @@
 -- `setup::set_running` meets its contract.
 use Rattle.model.specs.Calls.{lentTo, lentBytes, filled, value, next}
-use Rattle.setup.proofs.Admitted.{answering, running-admitted}
+use Rattle.setup.proofs.Admitted.{answering, admitted-size, running-inside}
 use borrow.Author.Needs.{needs}
 use Rattle.setup.proofs.set_running.Statement.{statement}
 use Rattle.setup.proofs.set_running.Tie as tie
 
 write-running-requires : tie.Need-write-running-requires
-write-running-requires c κs = running-admitted _ _ _ _ (c .before .before .before .running-refusal .ensures) (c .before .enum-told .given .1)
+unfolding lentTo
+write-running-requires c κs = (search admitted-size, search running-inside)
 
 pub set-running-spec : {M : Type 1} → statement M
 set-running-spec =
