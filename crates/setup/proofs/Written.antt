@@ -8,7 +8,7 @@ use borrow.Author.Tests.{ne-eqb}
 use borrow.Rule.Slice.PartMut.{midOf, putMid}
 use lib.Dec.{eqb}
 use lib.ListN.{length, set}
-use Rattle.model.specs.Layout.{stateLength, mostVcpus, initialised, count, block, runningAt}
+use Rattle.model.specs.Layout.{stateLength, mostVcpus, initialised, count, block}
 use Rattle.model.specs.Calls.{vcpuAdded, initialisedNext}
 use Rattle.state.proofs.Lending.{stores, further, lent}
 
@@ -19,14 +19,6 @@ pub block-lent : (s last : List ℕ) (at n a : ℕ) → length s ≡ stateLength
 unfolding vcpuAdded stores further
 block-lent s last at n a l m e p =
     let part = lent at (at + 32 - at) s ((13, 0xffff) ∷ (16, a) ∷ (21, 2) ∷ (22, 3) ∷ []) (omega arith) (omega arith, (omega arith, (omega arith, (omega arith, tt)))) in
-    rw (p, part, e)
-
--- its running flag
-pub running-lent : (s last : List ℕ) (at v x : ℕ) → length s ≡ stateLength → v < mostVcpus → at ≡ block v
-    → last ≡ set (midOf at (at + 32 - at) s) 17 x → putMid at (at + 32 - at) s last ≡ set s (runningAt v) x
-unfolding stores further
-running-lent s last at v x l m e p =
-    let part = lent at (at + 32 - at) s ((17, x) ∷ []) (omega arith) (omega arith, tt) in
     rw (p, part, e)
 
 -- initialise

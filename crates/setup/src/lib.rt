@@ -1,4 +1,4 @@
-// The calls that set a device up: make, add vCPU, attribute groups 3 and 4, running flag. Each has its refusals in document 01's order, then its writer.
+// The calls that set a device up: make, add vCPU, attribute groups 3 and 4, running flag. Each has its refusals in document 01's order, EFAULT first, then its writer.
 use model::Answer;
 use model::Errno;
 use model::Refusal;
@@ -20,16 +20,18 @@ use state::is_affinity;
 use state::is_count;
 use state::is_sound;
 use state::is_unused;
+use state::put_in_block;
 ghost use mathlib.Core.Path.{_≡_};
 ghost use mathlib.Core.List.{[]};
 ghost use mathlib.Core.Bool.{cond, not, _&&_, _||_};
 ghost use Prim.Native.Nat.{_<_};
 ghost use lib.Dec.{eqb, ltb};
 ghost use lib.ListN.{length, replicate, set};
-ghost use Rattle.model.specs.Words.{val};
-ghost use Rattle.model.specs.Layout.{stateLength, mostVcpus, count, vcpus, isInitialised, runningAt};
+ghost use Rattle.model.specs.Layout.{stateLength, mostVcpus, count, vcpus, isInitialised};
 ghost use Rattle.model.specs.Refusals.{number};
 ghost use Rattle.model.specs.Calls.{Does, call, refusal, make, addVcpu, setRunning, getAttribute, setAttribute, vcpuAdded, initialisedNext};
+
+// ---- make a device
 
 // Every word becomes zero.
 fn clear(s: &mut [u32])
@@ -77,6 +79,7 @@ fn write_vcpu(s: &mut [u32], mpidr: Mpidr)
     s[VCPUS] = n + 1;
 }
 
+// 16 if initialised; 22 bad affinity; 17 in use; 12 a ninth vCPU.
 fn add_refusal(s: &[u32], mpidr: Mpidr) -> Refusal
     ensures { λ r. ⌜ r ≡ refusal (addVcpu (mpidr .0)) (now (s .entry)) ⌝ }
 {
@@ -121,6 +124,7 @@ fn count_is_open(s: &[u32]) -> bool
     (s[COUNT] == 0) & (s[INITIALISED] != 1)
 }
 
+// 22 no count; 16 if set or initialised.
 fn count_refusal(s: &[u32], attribute: u64, value: u64) -> Refusal
     ensures { λ r. ⌜ r ≡ refusal (setAttribute 3 attribute value) (now (s .entry)) ⌝ }
 {
@@ -187,6 +191,7 @@ fn may_initialise(s: &[u32]) -> bool
     (s[INITIALISED] == 1) | (0 < s[VCPUS])
 }
 
+// 6 if the attribute is not 0; 19 with no vCPU, unless done already.
 fn initialise_refusal(s: &[u32], attribute: u64, value: u64) -> Refusal
     ensures { λ r. ⌜ r ≡ refusal (setAttribute 4 attribute value) (now (s .entry)) ⌝ }
 {
@@ -226,22 +231,7 @@ pub fn get_initialise(s: &[u32], attribute: u64) -> Answer
 
 // ---- running flag
 
-fn write_running_flag(b: &mut [u32], on: bool)
-    requires { ⌜ length (now b) ≡ 32 ⌝ }
-    ensures { λ _. ⌜ now (b .exit) ≡ set (now (b .entry)) 17 (val on) ⌝ }
-{
-    b[RUNNING] = on as u32;
-}
-
-// The flag in the block of vCPU v, lent on.
-fn write_running(s: &mut [u32], v: VcpuIndex, on: bool)
-    requires { ⌜ (length (now s) ≡ stateLength) × (v .0 < mostVcpus) ⌝ }
-    ensures { λ _. ⌜ now (s .exit) ≡ set (now (s .entry)) (runningAt (v .0)) (val on) ⌝ }
-{
-    let at = block_at(v);
-    write_running_flag(&mut s[at..at + BLOCK_LENGTH], on);
-}
-
+// 16 if not initialised; 22 no such index.
 fn running_refusal(s: &[u32], v: VcpuIndex, on: bool) -> Refusal
     ensures { λ r. ⌜ r ≡ refusal (setRunning (v .0) on) (now (s .entry)) ⌝ }
 {
@@ -266,6 +256,6 @@ pub fn set_running(s: &mut [u32], v: VcpuIndex, on: bool) -> Answer
     if let Refusal::Refuse(e) = refusal {
         return Answer::Refused(e);
     }
-    write_running(s, v, on);
+    put_in_block(s, v, RUNNING, on as u32);
     Answer::Value(0)
 }

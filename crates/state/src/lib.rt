@@ -15,13 +15,15 @@ use model::layout::MOST_VCPUS;
 use model::layout::ROUTES;
 use model::layout::STATE_LENGTH;
 use model::layout::VCPUS;
+use words::with_bit;
 ghost use mathlib.Core.Path.{_≡_};
 ghost use mathlib.Core.Bool.{true};
 ghost use Prim.Native.Nat.{_+_, _-_, _%_, _≤_, _<_};
 ghost use lib.Dec.{eqb};
-ghost use lib.ListN.{length};
-ghost use Rattle.model.specs.Words.{lowest, allBelow, every};
-ghost use Rattle.model.specs.Layout.{stateLength, mostVcpus, vcpus, affinity, block, bank};
+ghost use lib.ListN.{length, set};
+ghost use Rattle.model.specs.Words.{withBit, lowest, allBelow, every};
+ghost use Rattle.model.specs.Layout.{stateLength, mostVcpus, word, vcpus, affinity, block, bank};
+ghost use Rattle.model.specs.Interrupts.{setFlag};
 ghost use Rattle.model.specs.Sound.{usedBits, freshBits, fits, wordOk, isCount, setup, isAffinity, unused, vcpuOk, sound};
 ghost use Rattle.state.specs.Clear.{Apart, Clear};
 ghost use Rattle.state.specs.Lookup.{found};
@@ -119,6 +121,40 @@ pub fn bank_at(v: VcpuIndex, w: usize) -> usize
         return block_at(v);
     }
     256 + BANK_LENGTH * w
+}
+
+// Stores one word of a block that is lent.
+fn store(block: &mut [u32], j: usize, x: u32)
+    requires { ⌜ j < length (now block) ⌝ }
+    ensures { λ _. ⌜ now (block .exit) ≡ set (now (block .entry)) j x ⌝ }
+{
+    block[j] = x;
+}
+
+// Stores word `j` of the block of vCPU `v`.
+pub fn put_in_block(s: &mut [u32], v: VcpuIndex, j: usize, x: u32)
+    requires { ⌜ (length (now s) ≡ stateLength) × (v .0 < mostVcpus) × (j < 32) ⌝ }
+    ensures { λ _. ⌜ now (s .exit) ≡ set (now (s .entry)) (block (v .0) + j) x ⌝ }
+{
+    let at = block_at(v);
+    store(&mut s[at..at + BLOCK_LENGTH], j, x);
+}
+
+// Makes bit `i` of word `k` of a bank that is lent `on`.
+fn put_bit(bank: &mut [u32], k: usize, i: u32, on: bool)
+    requires { ⌜ (k < length (now bank)) × (i < 32) ⌝ }
+    ensures { λ _. ⌜ now (bank .exit) ≡ set (now (bank .entry)) k (withBit (word (now (bank .entry)) k) i on) ⌝ }
+{
+    bank[k] = with_bit(bank[k], i, on);
+}
+
+// Makes the flag in word `k` of the bank of interrupt `id`, as vCPU `v` sees it, `on`.
+pub fn put_flag(s: &mut [u32], k: usize, on: bool, v: VcpuIndex, id: usize)
+    requires { ⌜ (length (now s) ≡ stateLength) × (k < 16) × (v .0 < mostVcpus) × (id < 1024) ⌝ }
+    ensures { λ _. ⌜ now (s .exit) ≡ setFlag k on (v .0) id (now (s .entry)) ⌝ }
+{
+    let at = bank_at(v, id / 32);
+    put_bit(&mut s[at..at + BANK_LENGTH], k, (id % 32) as u32, on);
 }
 
 // ---- soundness

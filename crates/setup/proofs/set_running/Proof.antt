@@ -1,16 +1,17 @@
 -- `setup::set_running` meets its contract.
+use lib.Dec.{lit<}
 use Rattle.model.specs.Calls.{lentTo, lentBytes, filled, value, next}
 use Rattle.setup.proofs.Admitted.{answering, admitted-size, running-inside}
 use borrow.Author.Needs.{needs}
 use Rattle.setup.proofs.set_running.Statement.{statement}
 use Rattle.setup.proofs.set_running.Tie as tie
 
-write-running-requires : tie.Need-write-running-requires
+put-in-block-requires : tie.Need-put-in-block-requires
 unfolding lentTo
-write-running-requires c κs = (search admitted-size, search running-inside)
+put-in-block-requires c κs = (search admitted-size, search running-inside, search lit<)
 
 pub set-running-spec : {M : Type 1} → statement M
 set-running-spec =
     tie.close
     (tie.spec (λ c κs. search needs) (λ c. search needs) (λ c. search needs) (λ c. unfold lentTo lentBytes in (search answering)) (λ c. search needs)
-    write-running-requires (λ c. search needs) (λ c. unfold lentTo filled value next in (search answering)))
+    (λ c. search needs) put-in-block-requires (λ c. search needs) (λ c. unfold lentTo filled value next in (search answering)))

@@ -1,0 +1,11 @@
+-- `state::put_flag` meets its contract.
+use Rattle.state.proofs.Lending.{flag-stored}
+use borrow.Author.Needs.{needs}
+use Rattle.state.proofs.put_flag.Statement.{statement}
+use Rattle.state.proofs.put_flag.Tie as tie
+
+pub put-flag-spec : {M : Type 1} → statement M
+put-flag-spec =
+    tie.close
+    (tie.spec (λ c κs. search needs) (λ c. search needs) (λ c. search needs) (λ c. search needs) (λ c. search needs) (λ c. search needs)
+    (λ c. search needs) (λ c κs. search needs) (λ c. search needs) (λ c. search flag-stored))

@@ -1,0 +1,11 @@
+-- `state::put_in_block` meets its contract.
+use Rattle.state.proofs.Lending.{block-stored}
+use borrow.Author.Needs.{needs}
+use Rattle.state.proofs.put_in_block.Statement.{statement}
+use Rattle.state.proofs.put_in_block.Tie as tie
+
+pub put-in-block-spec : {M : Type 1} → statement M
+put-in-block-spec =
+    tie.close
+    (tie.spec (λ c κs. search needs) (λ c. search needs) (λ c. search needs) (λ c. search needs) (λ c. search needs) (λ c. search needs)
+    (λ c κs. search needs) (λ c. search needs) (λ c. search block-stored))
