@@ -5,8 +5,9 @@ use mathlib.Core.List.{List}
 use native.Mathlib.Nat.{zero-add, sub-self, zero-mod, mod-zero, mod-add-mod, mod-eq-of-lt, mod-eq-sub-mod, add-mod-right}
 use native.Mathlib.Decide.{decLt}
 use native.Mathlib.Omega.{arith}
-use lib.Bits.{bitAnd, bitOr, or-add-and, and-le-l, and-le-r}
+use lib.Bits.{bitAnd, bitOr}
 use lib.ListN.{length, getD}
+use Rattle.words.proofs.Masks.{or-left, or-right, or-none}
 use Rattle.state.specs.Clear.{Apart, Clear}
 
 module _ {P : ℕ → Type 0} where
@@ -23,13 +24,12 @@ module _ {P : ℕ → Type 0} where
 
   pub clear-join : {a b e x y : ℕ} → Clear P a b x → Clear P b e y → Clear P a e (bitOr x y)
   clear-join {a} {b} {e} {x} {y} p q =
-      let sum = or-add-and x y in
-      let left = and-le-l x y in
-      let right = and-le-r x y in
+      let l₁ = p .ordered in
+      let l₂ = q .ordered in
       record {
         ordered = omega arith;
-        all = λ z k l m. elim (decLt k b) [ yes i ↦ p .all (omega arith) k l i | no i ↦ q .all (omega arith) k (omega arith) m ];
-        none = λ h. omega (arith, p .none (λ k l m. h k l (omega arith)), q .none (λ k l m. h k (omega arith) m));
+        all = λ z k l m. elim (decLt k b) [ yes i ↦ p .all (or-left x y z) k l i | no i ↦ q .all (or-right x y z) k (omega arith) m ];
+        none = λ h. or-none x y (p .none (λ k l m. h k l (omega arith))) (q .none (λ k l m. h k (omega arith) m));
       }
 
 -- where P and Q say the same at each place
