@@ -27,8 +27,8 @@ use Rattle.model.specs.declared.RegisterGroup.{RegisterGroup}
 use Rattle.model.specs.declared.AttributeGroup.{AttributeGroup}
 use Rattle.model.specs.declared.AttributeGroup.the-variants.{Registers, Count, Initialise, Unknown}
 
--- The numbers are any numbers and the buffers any bytes: the caller's. Where the code has a width it is 64 bits, so that no number of the page is cut
--- before it is tested. A guest's access names the vCPU that makes it, and a size in bytes.
+-- The numbers are any numbers and the buffers any bytes: the caller's. Where the code has a width it is 64 bits, or 32 for an affinity, so that no
+-- number of the page is cut before it is tested. A guest's access names the vCPU that makes it, and a size in bytes.
 pub data Call : Type 0 where
   make : Call
   -- affinity

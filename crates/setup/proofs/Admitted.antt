@@ -12,7 +12,7 @@ use mir.Val.{Fits}
 use Rattle.model.specs.Layout.{stateLength, mostVcpus, initialised, count, vcpus}
 use Rattle.model.specs.Sound.{sound}
 use Rattle.model.specs.Attributes.{groupOf}
-use Rattle.model.specs.Calls.{Call, call, refusal, addVcpu, setRunning, setAttribute, aDevice, lentTo, acceptable, checks, setChecks}
+use Rattle.model.specs.Calls.{Call, refusal, addVcpu, setRunning, setAttribute, aDevice, lentTo, acceptable, checks, setChecks}
 use Rattle.model.specs.declared.Refusal.{Refusal}
 use Rattle.model.specs.declared.Refusal.the-variants.{None}
 use Rattle.model.proofs.Soundness.{sound-length, open-sound, setup-vcpus, is-count}

@@ -58,14 +58,14 @@ pub fn is_count(c: u64) -> bool
 
 // ---- lookup
 
-// The first of `n` vCPUs whose affinity is `a`, or `n`.
-fn first_with(s: &[u32], a: u32, n: usize) -> usize
+// The first of `n` vCPUs that has the affinity, or `n`.
+fn first_with(s: &[u32], mpidr: Mpidr, n: usize) -> usize
     requires { ⌜ (length (now s) ≡ stateLength) × (n ≤ mostVcpus) ⌝ }
-    ensures { λ r. ⌜ (r ≡ lowest (λ v. eqb (affinity (now (s .entry)) v) a) n 0) × (r ≤ n) ⌝ }
+    ensures { λ r. ⌜ (r ≡ lowest (λ v. eqb (affinity (now (s .entry)) v) (mpidr .0)) n 0) × (r ≤ n) ⌝ }
 {
     let mut v: usize = 0;
     while v < n {
-        if s[BLOCKS + BLOCK_LENGTH * v + AFFINITY] == a {
+        if affinity_of(s, VcpuIndex(v)).0 == mpidr.0 {
             return v;
         }
         v += 1;
@@ -78,7 +78,7 @@ pub fn is_unused(s: &[u32], mpidr: Mpidr, n: usize) -> bool
     requires { ⌜ (length (now s) ≡ stateLength) × (n ≤ mostVcpus) ⌝ }
     ensures { λ r. ⌜ r ≡ unused (now (s .entry)) (mpidr .0) n ⌝ }
 {
-    first_with(s, mpidr.0, n) == n
+    first_with(s, mpidr, n) == n
 }
 
 // The vCPU that has an affinity.
@@ -87,7 +87,7 @@ pub fn index_of(s: &[u32], mpidr: Mpidr) -> Found
     ensures { λ r. ⌜ r ≡ found (now (s .entry)) (mpidr .0) ⌝ }
 {
     let n = wide(s[VCPUS]);
-    let v = first_with(s, mpidr.0, n);
+    let v = first_with(s, mpidr, n);
     if v < n {
         return Found::At(VcpuIndex(v));
     }
@@ -159,7 +159,7 @@ pub fn put_flag(s: &mut [u32], k: usize, on: bool, v: VcpuIndex, id: usize)
 
 // ---- soundness
 
-// The numbers of the set-up go together.
+// The mark is 0 or 1, there are at most eight vCPUs, the count is unset or valid; once initialised there are a count and a vCPU.
 fn setup_ok(initialised: usize, count: usize, n: usize) -> bool
     ensures { λ r. ⌜ r ≡ setup initialised count n ⌝ }
 {
@@ -171,12 +171,12 @@ fn setup_ok(initialised: usize, count: usize, n: usize) -> bool
 }
 
 // The SGIs of vCPU `v` are edge, BPR0 and BPR1 have at least their least values, and no earlier vCPU has its affinity.
-fn vcpu_ok(s: &[u32], v: usize) -> bool
-    requires { ⌜ (length (now s) ≡ stateLength) × (v < mostVcpus) ⌝ }
-    ensures { λ r. ⌜ r ≡ vcpuOk (now (s .entry)) v ⌝ }
+fn vcpu_ok(s: &[u32], v: VcpuIndex) -> bool
+    requires { ⌜ (length (now s) ≡ stateLength) × (v .0 < mostVcpus) ⌝ }
+    ensures { λ r. ⌜ r ≡ vcpuOk (now (s .entry)) (v .0) ⌝ }
 {
-    let block = BLOCKS + BLOCK_LENGTH * v;
-    let unused = is_unused(s, Mpidr(s[block + AFFINITY]), v);
+    let block = block_at(v);
+    let unused = is_unused(s, affinity_of(s, v), v.0);
     (s[block + EDGES] == 0xffff) & (2 <= s[block + BPR0]) & (3 <= s[block + BPR1]) & unused
 }
 
@@ -188,7 +188,7 @@ fn vcpus_ok(s: &[u32], n: usize) -> bool
     let mut ok = true;
     let mut v: usize = 0;
     while v < n {
-        ok = vcpu_ok(s, v) & ok;
+        ok = vcpu_ok(s, VcpuIndex(v)) & ok;
         v += 1;
     }
     ok
@@ -208,7 +208,7 @@ fn misfit_row(s: &[u32], at: usize, row: &[u32]) -> u32
     joined
 }
 
-// The same from `a` up to `e`, with the row again and again. No branch in the loops: LLVM unrolls the row and makes vector code of it.
+// The same from `a` up to `e`, a row after the other. No branch in the loops: LLVM unrolls the row and makes vector code of it.
 fn misfit(s: &[u32], a: usize, e: usize, row: &[u32]) -> u32
     requires { ⌜ (length (now s) ≡ stateLength) × (a ≤ e) × (e ≤ stateLength) × ((e - a) % length (now row) ≡ 0) ⌝ }
     ensures { λ r. ⌜ Clear (Apart (now (s .entry)) (now (row .entry)) a) a e r ⌝ }

@@ -6,11 +6,13 @@ use Rattle.state.proofs.vcpu_ok.Tie as tie
 
 returns : tie.Need-returns
 unfolding vcpuOk
-returns c = rw (c .before .before .before .is-unused .ensures)
+returns c =
+    let unused = c .before .before .before in
+    let given = unused .before in
+    rw (unused .is-unused .ensures, given .affinity-of .ensures, given .before .block-at .ensures .0)
 
 pub vcpu-ok-spec : {M : Type 1} → statement M
 vcpu-ok-spec =
     tie.close
-    (tie.spec (λ c. search needs) (λ c. search needs) (λ c. search needs) (λ c. search needs) (λ c. search needs) (λ c κs. search needs)
-    (λ c. search needs) (λ c. search needs) (λ c. search needs) (λ c. search needs) (λ c. search needs) (λ c. search needs) (λ c. search needs)
-    (λ c. search needs) (λ c. search needs) returns)
+    (tie.spec (λ c κs. search needs) (λ c κs. search needs) (λ c κs. search needs) (λ c. search needs) (λ c. search needs) (λ c. search needs)
+    (λ c. search needs) (λ c. search needs) (λ c. search needs) (λ c. search needs) (λ c. search needs) (λ c. search needs) returns)
