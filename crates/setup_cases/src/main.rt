@@ -292,9 +292,50 @@ fn running_flags() {
     say_words(&s);
 }
 
+fn run_one_of_three() {
+    let mut s = [0u32; 1760];
+    say(b"three vCPUs: run 1, run 2, stop 1, stop 0:");
+    vgic::make(&mut s);
+    vgic::set_count(&mut s, 0, 64);
+    vgic::add_vcpu(&mut s, Mpidr(0));
+    vgic::add_vcpu(&mut s, Mpidr(1));
+    vgic::add_vcpu(&mut s, Mpidr(2));
+    vgic::initialise(&mut s, 0, 0);
+    say_run(&mut s, 1);
+    say_run(&mut s, 2);
+    say_answer(vgic::set_running(&mut s, VcpuIndex(1), false));
+    say_answer(vgic::set_running(&mut s, VcpuIndex(0), false));
+    say_words(&s);
+}
+
+fn eight_initialised() {
+    let mut s = eight_vcpus();
+    vgic::initialise(&mut s, 0, 0);
+    say(b"eight, initialised: bad, used, free, get 7:");
+    say_add(&mut s, 0x10);
+    say_add(&mut s, 0x700);
+    say_add(&mut s, 0x0f);
+    say_answer(vgic::get_initialise(&s, 7));
+    say(b"\n");
+}
+
+// Calls that would be refused otherwise too, on a state that is not sound.
+fn fault_first() {
+    let mut s = one_vcpu();
+    store(&mut s, 15, 1);
+    say(b"not sound: add 10, add 0, run 9, count 32, initialise 1, get 7:");
+    say_add(&mut s, 0x10);
+    say_add(&mut s, 0);
+    say_run(&mut s, 9);
+    say_answer(vgic::set_count(&mut s, 0, 32));
+    say_answer(vgic::initialise(&mut s, 1, 0));
+    say_answer(vgic::get_initialise(&s, 7));
+    say_words(&s);
+}
+
 // ---- states that are not sound
 
-// Count 64, one vCPU, initialised: a place, the most that it may hold, and a value out of its range.
+// Count 64, one vCPU, initialised: a place, a value that it may hold, and one that it may not.
 const USED: [[u32; 3]; 52] = [
     [0, 1, 2],
     [1, 0x40, 0x41],
@@ -351,10 +392,35 @@ const USED: [[u32; 3]; 52] = [
 ];
 
 // The same of count 1024 and eight vCPUs.
-const FULL: [[u32; 3]; 17] = [
+const FULL: [[u32; 3]; 42] = [
+    [52, 0xffff0000, 1],
+    [53, 0xf8f8f8f8, 2],
+    [61, 0xffff, 0x7fff],
+    [62, 0, 1],
     [64, 0x100, 0],
+    [65, 1, 2],
+    [66, 0xf, 0x10],
+    [67, 0xf8, 4],
+    [68, 2, 8],
+    [69, 7, 1],
+    [70, 7, 2],
+    [73, 1, 2],
+    [75, 0, 1],
+    [245, 0xf8f8f8f8, 0x100],
+    [253, 0xffff, 0xfffe],
     [256, 0x700, 0x600],
+    [257, 1, 2],
+    [261, 7, 8],
+    [262, 7, 2],
     [271, 0, 1],
+    [293, 0xf8f8f8f8, 7],
+    [301, 0xffff, 0x10000],
+    [303, 0, 1],
+    [501, 0xf8f8f8f8, 0x7000000],
+    [510, 0xffff, 0x80000000],
+    [511, 0, 1],
+    [741, 0xf8f8f8f8, 1],
+    [749, 0xffff, 0x10000],
     [751, 0, 1],
     [752, 0xfffffff, 0x10000000],
     [753, 0xfffffff, 0x20000000],
@@ -402,7 +468,10 @@ const EMPTY: [[u32; 3]; 5] = [
     [37, 0, 2],
 ];
 
-// The same of the first, at words that may have every bit.
+// The same of count 1024 and eight vCPUs before initialising: two may not have one affinity.
+const ADDED: [[u32; 3]; 2] = [[64, 0x100, 0], [256, 0x70f, 0x600]];
+
+// Places of the first where every bit is allowed: two values that it may hold.
 const WHOLE: [[u32; 3]; 11] = [
     [16, 0, 0xffffffff],
     [17, 0, 0xffffffff],
@@ -452,22 +521,22 @@ fn store(s: &mut [u32], at: usize, word: u32) {
     }
 }
 
-// One place of a sound state: the count that it gives with `most` there, and every call's answer with `over` there.
+// One place of a sound state: the count that it gives with the row's first value there, and every call's answer with its second there.
 fn place_case(state: [u32; 1760], row: [u32; 3]) {
     let mut s = state;
     let at = row[0] as usize;
-    let most = row[1];
-    let over = row[2];
-    store(&mut s, at, most);
+    let first = row[1];
+    let second = row[2];
+    store(&mut s, at, first);
     say_number(at as u64);
     say(b" ");
-    say_hex(most);
+    say_hex(first);
     say(b":");
     say_answer(vgic::get_count(&s, 0));
-    store(&mut s, at, over);
+    store(&mut s, at, second);
     let before = s;
     say(b" ");
-    say_hex(over);
+    say_hex(second);
     say(b":");
     say_calls(&mut s, &before);
 }
@@ -531,6 +600,11 @@ fn started_words() {
     place_cases(one_vcpu(), &STARTED);
 }
 
+fn added_words() {
+    say(b"count 1024, eight vCPUs, before initialising\n");
+    place_cases(eight_vcpus(), &ADDED);
+}
+
 fn empty_words() {
     let mut s = [0u32; 1760];
     vgic::make(&mut s);
@@ -549,6 +623,12 @@ fn length_case(s: &mut [u32], before: &[u32]) {
     say_calls(s, before);
 }
 
+// The words of a device just made, and one more.
+fn longer_device() {
+    let mut s = [0u32; 1761];
+    length_case(&mut s, &[0u32; 1761]);
+}
+
 fn lengths() {
     let mut none = [7u32; 0];
     let mut one = [7u32; 1];
@@ -559,6 +639,7 @@ fn lengths() {
     length_case(&mut one, &[7u32; 1]);
     length_case(&mut less, &[7u32; 1759]);
     length_case(&mut more, &[7u32; 1761]);
+    longer_device();
 }
 
 fn main() {
@@ -572,10 +653,14 @@ fn main() {
     refused_counts();
     refused_initialise();
     running_flags();
+    run_one_of_three();
+    eight_initialised();
+    fault_first();
     used_words();
     whole_words();
     full_words();
     started_words();
+    added_words();
     empty_words();
     lengths();
 }
