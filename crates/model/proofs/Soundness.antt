@@ -99,6 +99,10 @@ module _ (s : List ℕ) where
   unfolding wordOk allowedBits
   word-used i k w = rw i
 
+-- a sound state has at most eight vCPUs
+pub sound-vcpus : (s : List ℕ) → sound s ≡ true → vcpus s ≤ mostVcpus
+sound-vcpus s e = setup-vcpus (initialised s) (count s) (vcpus s) (open-sound s e .set-up)
+
 -- ---- a sound, initialised device: its numbers, and the bits that each word may have
 
 pub record Ready (s : List ℕ) : Type 0 where

@@ -9,13 +9,13 @@ use lib.Dec.{eqb, lit<}
 use lib.ListN.{length}
 use mir.Syntax.{w32, w64}
 use mir.Val.{Fits}
-use Rattle.model.specs.Layout.{stateLength, mostVcpus, initialised, count, vcpus}
+use Rattle.model.specs.Layout.{stateLength, mostVcpus, vcpus}
 use Rattle.model.specs.Sound.{sound}
 use Rattle.model.specs.Attributes.{groupOf}
 use Rattle.model.specs.Calls.{Call, refusal, addVcpu, setRunning, setAttribute, aDevice, lentTo, acceptable, checks, setChecks}
 use Rattle.model.specs.declared.Refusal.{Refusal}
 use Rattle.model.specs.declared.Refusal.the-variants.{None}
-use Rattle.model.proofs.Soundness.{sound-length, open-sound, setup-vcpus, is-count}
+use Rattle.model.proofs.Soundness.{sound-length, sound-vcpus, is-count}
 use Rattle.model.proofs.Refused.{told-yes, unrefused, refuses, grants, fault-is, refuse-is, none-is, tests}
 
 -- ---- after the test for soundness
@@ -25,11 +25,8 @@ sound-size s r e h = sound-length s (told-yes (sound s) r e h)
 pub sound-inside : (s : List ℕ) (r : Bool) (i : ℕ) → r ≡ sound s → not r ≡ false → i < stateLength → i < length s
 sound-inside s r i e h l = omega (arith, sound-size s r e h)
 
-pub few : (s : List ℕ) → sound s ≡ true → vcpus s ≤ mostVcpus
-few s e = setup-vcpus (initialised s) (count s) (vcpus s) (open-sound s e .set-up)
-
 pub sound-few : (s : List ℕ) (r : Bool) → r ≡ sound s → not r ≡ false → vcpus s ≤ mostVcpus
-sound-few s r e h = few s (told-yes (sound s) r e h)
+sound-few s r e h = sound-vcpus s (told-yes (sound s) r e h)
 
 pub sound-fits : (s : List ℕ) (r : Bool) → r ≡ sound s → not r ≡ false → Fits w64 (vcpus s)
 sound-fits s r e h = record { fits = omega (arith, sound-few s r e h) }
@@ -67,7 +64,7 @@ pub running-inside : (s : List ℕ) (r : Refusal) (v : ℕ) (on : Bool) → r �
 unfolding lentTo acceptable checks
 running-inside s r v on e n =
     let p = unrefused (setRunning v on) s (sym e ∙ n) in
-    omega (arith, ltb-true v (vcpus s) (p .1 .1 .0), few s (p .0))
+    omega (arith, ltb-true v (vcpus s) (p .1 .1 .0), sound-vcpus s (p .0))
 
 -- ---- `search inside` finds what the test for soundness says, `search refusing` which refusal a branch has come to, `search answering` what a call does by it
 pub ruleset inside = (sound-inside, sound-size, sound-few, sound-fits, lit<)

@@ -14,7 +14,7 @@ use Rattle.model.specs.Words.{every}
 use Rattle.model.specs.Layout.{block, routeAt}
 use Rattle.model.specs.Sound.{fits, usedBits, freshBits, entry, headerBits, blockBits, bankBits, lastBankBits, freshHeaderBits, freshBlockBits}
 use Rattle.model.proofs.Soundness.{Count}
-use Rattle.model.proofs.Masks.{entry-there, entry-absent, header-bits, block-bits, bank-bits, last-bits, route-bits, route-none}
+use Rattle.model.proofs.Masks.{entry-there, entry-absent, header-bits, block-bits, fresh-block-bits, bank-bits, last-bits, route-bits, route-none}
 use Rattle.state.specs.Clear.{Apart, Clear}
 use Rattle.state.proofs.Joined.{clear-join}
 use Rattle.state.proofs.Opposite.{opposite, clear-fit, clear-every}
@@ -115,14 +115,21 @@ module _ (n : ℕ) (few : n ≤ 8) where
   unfolding freshBits entry
   fresh-header k l m = let q : (k - 0) % 16 ≡ k = omega arith in rw (q, lt-ltb k 16 m)
 
+  fresh-in-block : (k : ℕ) → 16 ≤ k → k < 272 → freshBits n k ≡ entry (ltb ((k - 16) / 32) n) freshBlockBits ((k - 16) % 32)
+  fresh-in-block k l m =
+      let q : block ((k - 16) / 32) + (k - 16) % 32 ≡ k = omega arith in
+      rw q at (fresh-block-bits n ((k - 16) / 32) ((k - 16) % 32) (omega arith) (omega arith))
+
   fresh-block : (k : ℕ) → 16 ≤ k → k < 16 + 32 * n → freshBits n k ≡ getD freshBlockBits ((k - 16) % 32) 0
-  unfolding freshBits entry
-  fresh-block k l m = rw (le-ltb k 16 l, lt-ltb k 272 (omega arith), lt-ltb ((k - 16) / 32) n (omega arith))
+  fresh-block k l m = fresh-in-block k l (omega arith) ∙ entry-there _ freshBlockBits _ (lt-ltb ((k - 16) / 32) n (omega arith))
 
   fresh-none : (k : ℕ) → 16 + 32 * n ≤ k → k < 1760 → freshBits n k ≡ 0
-  unfolding freshBits entry
+  unfolding freshBits
   fresh-none k l m =
-      rw (le-ltb k 16 (omega arith)) (elim (decLt k 272) [ yes i ↦ rw (lt-ltb k 272 i, le-ltb ((k - 16) / 32) n (omega arith)) | no i ↦ rw (le-ltb k 272 (omega arith)) ])
+      elim (decLt k 272) [
+        | yes i ↦ fresh-in-block k (omega arith) i ∙ entry-absent _ freshBlockBits _ (le-ltb ((k - 16) / 32) n (omega arith))
+        | no i ↦ rw (le-ltb k 16 (omega arith), le-ltb k 272 (omega arith))
+      ]
 
   pub fresh-same : {s header vcpu none : List ℕ} {r₁ r₂ r₃ : ℕ} → length s ≡ 1760 → ((k : ℕ) → getD s k 0 < 2 ^ 32)
       → Clear (Apart s header 0) 0 16 r₁

@@ -46,7 +46,7 @@ pendingWord latch line low high = gather 32 (λ i. bit latch i || (not (bit (con
 
 -- of the interrupts of the bank b
 unfoldable pub pendingIn : List ℕ → ℕ
-pendingIn b = gather 32 (λ i. bit (word b latchField) i || (not (bit (word b (edgeField + i / 16)) (i % 16)) && bit (word b lineField) i))
+pendingIn b = pendingWord (word b latchField) (word b lineField) (word b edgeField) (word b (edgeField + 1))
 
 -- ---- set bits, the lowest first
 
