@@ -5,8 +5,9 @@ use mathlib.Core.List.{List}
 use lib.Dec.{eqb, ltb}
 use Rattle.model.specs.Words.{lowest}
 use Rattle.model.specs.Layout.{vcpus, affinity}
-use Rattle.model.specs.Registers.{decode, rows, read, write, attribute, iidr}
+use Rattle.model.specs.Registers.{decode, rows, read, write, iidr}
 use Rattle.model.specs.Interface.{system, plainRead, plainWrite, plainTakes}
+use Rattle.model.specs.declared.By.the-variants as by
 use Rattle.model.specs.declared.View.{View}
 use Rattle.model.specs.declared.View.the-variants as view
 use Rattle.model.specs.declared.Flags.the-variants as flags
@@ -115,12 +116,12 @@ takes (System v p) value = plainTakes p value
 takes Nameless value = true
 
 unfoldable pub itemRead : List ℕ → Item → ℕ
-itemRead s (Mapped x r k) = read attribute s x r k
+itemRead s (Mapped x r k) = read by.Attribute s x r k
 itemRead s (System v p) = plainRead s v p
 itemRead s Nameless = 0
 
 unfoldable pub itemWrite : List ℕ → Item → ℕ → List ℕ
-itemWrite s (Mapped x r k) value = write attribute s x r k value
+itemWrite s (Mapped x r k) value = write by.Attribute s x r k value
 itemWrite s (System v p) value = plainWrite s v p value
 itemWrite s Nameless value = s
 

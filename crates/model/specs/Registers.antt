@@ -7,6 +7,8 @@ use lib.ListN.{set}
 use Rattle.model.specs.Words.{bit, gather}
 use Rattle.model.specs.Layout.{word, count, vcpus, enablesAt, distributorStatusAt, frameStatusAt, affinity, bank, groupField, enabledField, latchField, activeField, lineField, priorityField, edgeField, routeAt}
 use Rattle.model.specs.Interrupts.{isPrivate, isSpi, flag, edge, priority, route, pending}
+use Rattle.model.specs.declared.By.{By}
+use Rattle.model.specs.declared.By.the-variants.{Guest, Attribute}
 use Rattle.model.specs.declared.View.{View}
 use Rattle.model.specs.declared.View.the-variants.{Distributor, Frame}
 use Rattle.model.specs.declared.Flags.{Flags}
@@ -82,6 +84,24 @@ unfoldable pub rows : View → List Row
 rows Distributor = distributorRows
 rows (Frame v) = frameRows
 
+-- banks of 32 interrupts in a view, and words of a register there
+unfoldable pub banks : View → ℕ
+banks Distributor = 32
+banks (Frame v) = 1
+
+unfoldable pub wordsOf : View → Register → ℕ
+wordsOf x (Fixed c) = 1
+wordsOf x Control = 1
+wordsOf x Typer = 1
+wordsOf x Iidr = 1
+wordsOf x Status = 1
+wordsOf x (Bits f) = banks x
+wordsOf x Priority = 8 * banks x
+wordsOf x Config = 2 * banks x
+wordsOf x Route = 1976
+wordsOf x FrameTyper = 1
+wordsOf x FrameAffinity = 1
+
 -- ---- the registers with a bit for each of 32 interrupts
 
 -- where the flag stands in the bank, the least ID that has it, and what guest and attribute read and write of it
@@ -106,17 +126,14 @@ flags SetActive = flagRow activeField 0 Flag Sets Flag Sets
 flags ClearActive = flagRow activeField 0 Flag Clears Flag Clears
 flags Lines = flagRow lineField 16 Nothing Ignores Flag Replaces
 
--- who reads or writes
-pub data By : Type 0 where
-  guest attribute : By
-
+-- what a row shows to guest or attribute, and the rule of what they write
 unfoldable pub shownTo : By → FlagRow → Shown
-shownTo guest r = r .guestShows
-shownTo attribute r = r .attributeShows
+shownTo Guest r = r .guestShows
+shownTo Attribute r = r .attributeShows
 
 unfoldable pub ruleFor : By → FlagRow → Rule
-ruleFor guest r = r .guestRule
-ruleFor attribute r = r .attributeRule
+ruleFor Guest r = r .guestRule
+ruleFor Attribute r = r .attributeRule
 
 -- what is shown of an interrupt's flag in word k of the bank
 unfoldable pub shows : Shown → ℕ → List ℕ → ℕ → ℕ → Bool
@@ -209,8 +226,8 @@ writeRoute s x k value = cond (eqb (k % 2) 0 && has s x (32 + k / 2)) (set s (ro
 
 -- a guest's ones clear; an attribute stores bits 3-0
 unfoldable pub writtenStatus : By → ℕ → ℕ → ℕ
-writtenStatus guest old value = gather 4 (λ i. bit old i && not (bit value i))
-writtenStatus attribute old value = value % 16
+writtenStatus Guest old value = gather 4 (λ i. bit old i && not (bit value i))
+writtenStatus Attribute old value = value % 16
 
 unfoldable pub write : By → List ℕ → View → Register → ℕ → ℕ → List ℕ
 write by s x (Fixed c) k value = s
@@ -252,15 +269,15 @@ byByte FrameAffinity = false
 unfoldable pub readAccess : Access → List ℕ → View → Decoded → ℕ → ℕ
 readAccess none s x d j = 0
 readAccess whole s x Unlisted j = 0
-readAccess whole s x (Listed r k) j = read guest s x r k
+readAccess whole s x (Listed r k) j = read Guest s x r k
 readAccess one s x Unlisted j = 0
-readAccess one s x (Listed r k) j = cond (byByte r) (read guest s x r k / 2 ^ (8 * j) % 256) 0
+readAccess one s x (Listed r k) j = cond (byByte r) (read Guest s x r k / 2 ^ (8 * j) % 256) 0
 
 -- a write uses the low bits of its size
 unfoldable pub writeAccess : Access → List ℕ → View → Decoded → ℕ → ℕ → List ℕ
 writeAccess none s x d j value = s
 writeAccess whole s x Unlisted j value = s
-writeAccess whole s x (Listed r k) j value = write guest s x r k (value % 2 ^ 32)
+writeAccess whole s x (Listed r k) j value = write Guest s x r k (value % 2 ^ 32)
 writeAccess one s x Unlisted j value = s
 writeAccess one s x (Listed r k) j value = cond (byByte r) (writePriority s x (λ i. eqb i j) k (value % 256 * 2 ^ (8 * j))) s
 

@@ -12,6 +12,11 @@ pub const COUNT: usize = 1;
 
 pub const VCPUS: usize = 2;
 
+// The distributor's group enables and its STATUSR.
+pub const ENABLES: usize = 3;
+
+pub const STATUS: usize = 4;
+
 // The blocks of the vCPUs from 16 on, the banks of the SPIs 32w to 32w + 31 at 256 + 16w, their routes from 768 on.
 pub const BLOCKS: usize = 16;
 
@@ -23,10 +28,18 @@ pub const BANK_LENGTH: usize = 16;
 
 pub const ROUTES: usize = 768;
 
-// The words of a bank; the edge flags are two.
+// The words of a bank; the priorities are eight, the edge flags two.
+pub const GROUP: usize = 0;
+
+pub const ENABLED: usize = 1;
+
 pub const LATCH: usize = 2;
 
+pub const ACTIVE: usize = 3;
+
 pub const LINE: usize = 4;
+
+pub const PRIORITIES: usize = 5;
 
 pub const EDGES: usize = 13;
 
@@ -34,6 +47,8 @@ pub const EDGES: usize = 13;
 pub const AFFINITY: usize = 16;
 
 pub const RUNNING: usize = 17;
+
+pub const FRAME_STATUS: usize = 18;
 
 pub const BPR0: usize = 21;
 

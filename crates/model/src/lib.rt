@@ -46,6 +46,12 @@ pub enum Flags {
     Lines,
 }
 
+// Who reads or writes.
+pub enum By {
+    Guest,
+    Attribute,
+}
+
 // What such a register shows of an interrupt.
 pub enum Shown {
     Nothing,
