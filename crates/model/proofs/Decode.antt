@@ -8,11 +8,12 @@ use native.Mathlib.Omega.{arith}
 use lib.Dec.{eqb, ltb, leb}
 use lib.ListN.{length, getD}
 use borrow.Author.Tests.{le-leb, lt-ltb, ltb-true, leb-true, eqb-true, eqb-false, eq-eqb, not-true}
-use Rattle.model.specs.Registers.{Row, row, inRow, decode, rows}
+use Rattle.model.specs.Registers.{Row, row, inRow, decode, rows, banks, wordsOf}
 use Rattle.model.specs.Interface.{SystemRow, systemRows, systemIn, system}
 use Rattle.model.specs.declared.View.{View}
 use Rattle.model.specs.declared.View.the-variants.{Distributor, Frame}
 use Rattle.model.specs.declared.Flags.the-variants.{Group, SetEnable, ClearEnable, SetPending, ClearPending, SetActive, ClearActive}
+use Rattle.model.specs.declared.Register.{Register}
 use Rattle.model.specs.declared.Register.the-variants.{Control, Status, Bits, Priority, Config, Route}
 use Rattle.model.specs.declared.Decoded.{Decoded}
 use Rattle.model.specs.declared.Decoded.the-variants.{Listed, Unlisted}
@@ -172,6 +173,47 @@ table-one-row rs e off = rw (decode-picks rs off) at (one-or-none (hasOffset off
 -- every offset falls in exactly one row of the distributor's table, or of a frame's, or in none
 pub offset-one-row : (x : View) (off : ℕ) → OneRow (rows x) off
 offset-one-row x off = table-one-row (rows x) (rows-apart x) off
+
+-- ---- what holds of each row holds of what an offset decodes to
+
+abbrev pub eachRow : (Row → Bool) → List Row → Bool
+eachRow f [] = true
+eachRow f (r ∷ rs) = f r && eachRow f rs
+
+-- the row of which the test f holds and by which an offset decodes to word k of register r
+pub record DecodedBy (f : Row → Bool) (off : ℕ) (r : Register) (k : ℕ) : Type 0 where
+  pub by : Row
+  pub holds : f by ≡ true
+  pub inside : inRow by off ≡ true
+  pub named : by .register ≡ r
+  pub number : (off - by .first) / 4 ≡ k
+
+pub decoded-by : (f : Row → Bool) (rs : List Row) → eachRow f rs ≡ true → (off : ℕ) (r : Register) (k : ℕ) → decode rs off ≡ Listed r k → DecodedBy f off r k
+unfolding decode
+decoded-by f [] h off r k e = let z : _≡_ {A = ℕ} 0 1 = cc in absurd (omega arith)
+decoded-by f (q ∷ rs) h off r k e = step (inRow q off) refl (decoded-by f rs (both (f q) (eachRow f rs) h .1) off r k) e
+  where
+    step : (t : Bool) → inRow q off ≡ t → (decode rs off ≡ Listed r k → DecodedBy f off r k)
+        → elim t [ true ↦ decodedIn off q | false ↦ decode rs off ] ≡ Listed r k → DecodedBy f off r k
+    step true i ih d = record { by = q; holds = both (f q) (eachRow f rs) h .0; inside = i; named = cc; number = cc }
+    step false i ih d = ih d
+
+-- the word at a row's last byte is one of the register's words in the view
+abbrev wordsFit : View → Row → Bool
+wordsFit x r = ltb ((r .last + 3 - r .first) / 4) (wordsOf x (r .register))
+
+rows-words : (x : View) → eachRow (wordsFit x) (rows x) ≡ true
+unfolding rows wordsOf banks
+rows-words Distributor = refl
+rows-words (Frame v) = refl
+
+-- an offset decodes to one of the register's words
+pub decode-words : (x : View) (off : ℕ) (r : Register) (k : ℕ) → decode (rows x) off ≡ Listed r k → k < wordsOf x r
+decode-words x off r k e =
+    let d = decoded-by (wordsFit x) (rows x) (rows-words x) off r k e in
+    let l = ltb-true ((d .by .last + 3 - d .by .first) / 4) (wordsOf x (d .by .register)) (d .holds) in
+    let m : k < wordsOf x (d .by .register) = omega (arith, in-row (d .by) off (d .inside)) in
+    rw (d .named) at m
 
 -- ---- the register at an offset, from the row
 

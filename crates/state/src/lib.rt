@@ -23,7 +23,7 @@ ghost use lib.Dec.{eqb};
 ghost use lib.ListN.{length, set};
 ghost use Rattle.model.specs.Words.{withBit, lowest, allBelow, every};
 ghost use Rattle.model.specs.Layout.{stateLength, mostVcpus, word, vcpus, affinity, block, bank};
-ghost use Rattle.model.specs.Interrupts.{setFlag};
+ghost use Rattle.model.specs.Interrupts.{idsBelow, isSpi, setFlag};
 ghost use Rattle.model.specs.Sound.{usedBits, freshBits, fits, wordOk, isCount, setup, isAffinity, unused, vcpuOk, sound};
 ghost use Rattle.state.specs.Clear.{Apart, Clear};
 ghost use Rattle.state.specs.Lookup.{found};
@@ -54,6 +54,23 @@ pub fn is_count(c: u64) -> bool
     ensures { λ r. ⌜ r ≡ isCount c ⌝ }
 {
     (64 <= c) & (c <= 1024) & (c % 32 == 0)
+}
+
+// ---- which SPIs exist
+
+// The SPIs of a count are from 32 to below this.
+fn ids_below(count: u32) -> usize
+    ensures { λ r. ⌜ r ≡ idsBelow count ⌝ }
+{
+    if count < 1020 { count as usize } else { 1020 }
+}
+
+// Whether the ID is an SPI that exists.
+pub fn is_spi(s: &[u32], id: usize) -> bool
+    requires { ⌜ length (now s) ≡ stateLength ⌝ }
+    ensures { λ r. ⌜ r ≡ isSpi (now (s .entry)) id ⌝ }
+{
+    (32 <= id) & (id < ids_below(s[COUNT]))
 }
 
 // ---- lookup

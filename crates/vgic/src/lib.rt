@@ -1,12 +1,13 @@
 // The public calls. Each takes any numbers and any lent words, and promises the answer and the words of its case of `call`.
 use model::Answer;
 use model::Errno;
+use model::RegisterGroup;
 use state::Mpidr;
 use state::VcpuIndex;
 ghost use mathlib.Core.Path.{_≡_};
 ghost use mathlib.Core.List.{[]};
 ghost use Rattle.model.specs.Refusals.{errno, number};
-ghost use Rattle.model.specs.Calls.{Does, call, make, addVcpu, setRunning, getAttribute, setAttribute};
+ghost use Rattle.model.specs.Calls.{Does, call, make, addVcpu, setRunning, changeLine, readDistributor, writeDistributor, readFrame, writeFrame, getAttribute, setAttribute};
 
 // ---- the answer as a signed number
 
@@ -88,4 +89,87 @@ pub fn get_initialise(state: &[u32], attribute: u64) -> i64
     ensures { λ r. ⌜ Does (call (getAttribute 4 attribute) (now (state .entry))) r (now (state .entry)) [] ⌝ }
 {
     number_of(setup::get_initialise(state, attribute))
+}
+
+// ---- the guest's accesses to memory-mapped registers, by the vCPU `v`
+
+// Reads `size` bytes of the distributor.
+pub fn read_distributor(state: &[u32], v: VcpuIndex, offset: u64, size: u64) -> i64
+    ensures { λ r. ⌜ Does (call (readDistributor (v .0) offset size) (now (state .entry))) r (now (state .entry)) [] ⌝ }
+{
+    number_of(access::read_distributor(state, v, offset, size))
+}
+
+// Writes `size` bytes of the distributor.
+pub fn write_distributor(state: &mut [u32], v: VcpuIndex, offset: u64, size: u64, value: u64) -> i64
+    ensures { λ r. ⌜ Does (call (writeDistributor (v .0) offset size value) (now (state .entry))) r (now (state .exit)) [] ⌝ }
+{
+    number_of(access::write_distributor(state, v, offset, size, value))
+}
+
+// Reads `size` bytes of the redistributor frame of a vCPU.
+pub fn read_frame(state: &[u32], v: VcpuIndex, frame: VcpuIndex, offset: u64, size: u64) -> i64
+    ensures { λ r. ⌜ Does (call (readFrame (v .0) (frame .0) offset size) (now (state .entry))) r (now (state .entry)) [] ⌝ }
+{
+    number_of(access::read_frame(state, v, frame, offset, size))
+}
+
+// Writes `size` bytes of the redistributor frame of a vCPU.
+pub fn write_frame(state: &mut [u32], v: VcpuIndex, frame: VcpuIndex, offset: u64, size: u64, value: u64) -> i64
+    ensures { λ r. ⌜ Does (call (writeFrame (v .0) (frame .0) offset size value) (now (state .entry))) r (now (state .exit)) [] ⌝ }
+{
+    number_of(access::write_frame(state, v, frame, offset, size, value))
+}
+
+// ---- lines
+
+// Changes the line of a PPI of a vCPU, or of an SPI.
+pub fn change_line(state: &mut [u32], v: VcpuIndex, id: usize, level: bool) -> i64
+    ensures { λ r. ⌜ Does (call (changeLine (v .0) id level) (now (state .entry))) r (now (state .exit)) [] ⌝ }
+{
+    number_of(access::change_line(state, v, id, level))
+}
+
+// ---- attributes of the memory-mapped registers, and lines
+
+// Attribute group 1: gets a word of the distributor.
+pub fn get_distributor(state: &[u32], attribute: u64) -> i64
+    ensures { λ r. ⌜ Does (call (getAttribute 1 attribute) (now (state .entry))) r (now (state .entry)) [] ⌝ }
+{
+    number_of(attributes::get(state, RegisterGroup::Distributor, attribute))
+}
+
+// Attribute group 1: sets a word of the distributor.
+pub fn set_distributor(state: &mut [u32], attribute: u64, value: u64) -> i64
+    ensures { λ r. ⌜ Does (call (setAttribute 1 attribute value) (now (state .entry))) r (now (state .exit)) [] ⌝ }
+{
+    number_of(attributes::set(state, RegisterGroup::Distributor, attribute, value))
+}
+
+// Attribute group 5: gets a word of a redistributor frame.
+pub fn get_redistributor(state: &[u32], attribute: u64) -> i64
+    ensures { λ r. ⌜ Does (call (getAttribute 5 attribute) (now (state .entry))) r (now (state .entry)) [] ⌝ }
+{
+    number_of(attributes::get(state, RegisterGroup::Redistributor, attribute))
+}
+
+// Attribute group 5: sets a word of a redistributor frame.
+pub fn set_redistributor(state: &mut [u32], attribute: u64, value: u64) -> i64
+    ensures { λ r. ⌜ Does (call (setAttribute 5 attribute value) (now (state .entry))) r (now (state .exit)) [] ⌝ }
+{
+    number_of(attributes::set(state, RegisterGroup::Redistributor, attribute, value))
+}
+
+// Attribute group 7: gets the lines of 32 interrupts.
+pub fn get_lines(state: &[u32], attribute: u64) -> i64
+    ensures { λ r. ⌜ Does (call (getAttribute 7 attribute) (now (state .entry))) r (now (state .entry)) [] ⌝ }
+{
+    number_of(attributes::get(state, RegisterGroup::Lines, attribute))
+}
+
+// Attribute group 7: sets the lines of 32 interrupts, latching nothing.
+pub fn set_lines(state: &mut [u32], attribute: u64, value: u64) -> i64
+    ensures { λ r. ⌜ Does (call (setAttribute 7 attribute value) (now (state .entry))) r (now (state .exit)) [] ⌝ }
+{
+    number_of(attributes::set(state, RegisterGroup::Lines, attribute, value))
 }

@@ -1,0 +1,246 @@
+// The guest's accesses to memory-mapped registers, and line changes. Each has its refusals in document 01's order, EFAULT first.
+use model::Answer;
+use model::By;
+use model::Decoded;
+use model::Errno;
+use model::Refusal;
+use model::Register;
+use model::View;
+use model::layout::BANK_LENGTH;
+use model::layout::EDGES;
+use model::layout::INITIALISED;
+use model::layout::LATCH;
+use model::layout::LINE;
+use model::layout::RUNNING;
+use model::layout::VCPUS;
+use registers::Bytes;
+use registers::decode::register_at;
+use registers::read_word;
+use registers::write_priority;
+use registers::write_word;
+use state::VcpuIndex;
+use state::bank_at;
+use state::block_at;
+use state::is_sound;
+use state::is_spi;
+use words::byte_at;
+use words::byte_of;
+use words::has_bit;
+use words::with_bit;
+ghost use mathlib.Core.Path.{_≡_};
+ghost use mathlib.Core.List.{[], _∷_};
+ghost use mathlib.Core.Bool.{true};
+ghost use Prim.Native.Nat.{_*_, _%_, _^_, _<_};
+ghost use lib.Dec.{eqb};
+ghost use lib.ListN.{length};
+ghost use Rattle.model.specs.Layout.{stateLength, mostVcpus, isInitialised};
+ghost use Rattle.model.specs.Sound.{sound};
+ghost use Rattle.model.specs.Refusals.{firstFailing, number};
+ghost use Rattle.model.specs.Registers.{banks, seenBy, byByte, writePriority, guestRead, guestWrite};
+ghost use Rattle.model.specs.Lines.{lineChanged};
+ghost use Rattle.model.specs.Calls.{Does, call, guestChecks, frameChecks, hasLine, readDistributor, writeDistributor, readFrame, writeFrame, changeLine};
+ghost use Rattle.model.specs.declared.Errno.the-variants.{Efault, Ebusy, Einval};
+ghost use Rattle.access.specs.Lines.{lineIn};
+
+// ---- refusals
+
+// 16 if not initialised; 22 no such vCPU; 1 not running.
+fn guest_refusal(s: &[u32], v: VcpuIndex) -> Refusal
+    ensures { λ r. ⌜ r ≡ firstFailing ((sound (now (s .entry)), Efault) ∷ guestChecks (v .0) (now (s .entry))) ⌝ }
+{
+    if !is_sound(s) {
+        return Refusal::Refuse(Errno::Efault);
+    }
+    if s[INITIALISED] != 1 {
+        return Refusal::Refuse(Errno::Ebusy);
+    }
+    let n = s[VCPUS] as usize;
+    if v.0 >= n {
+        return Refusal::Refuse(Errno::Einval);
+    }
+    if s[block_at(v) + RUNNING] != 1 {
+        return Refusal::Refuse(Errno::Eperm);
+    }
+    Refusal::None
+}
+
+// 16 if not initialised; 22 no such vCPU or frame; 1 not running.
+fn frame_refusal(s: &[u32], v: VcpuIndex, frame: VcpuIndex) -> Refusal
+    ensures { λ r. ⌜ r ≡ firstFailing ((sound (now (s .entry)), Efault) ∷ frameChecks (v .0) (frame .0) (now (s .entry))) ⌝ }
+{
+    if !is_sound(s) {
+        return Refusal::Refuse(Errno::Efault);
+    }
+    if s[INITIALISED] != 1 {
+        return Refusal::Refuse(Errno::Ebusy);
+    }
+    let n = s[VCPUS] as usize;
+    if v.0 >= n {
+        return Refusal::Refuse(Errno::Einval);
+    }
+    if frame.0 >= n {
+        return Refusal::Refuse(Errno::Einval);
+    }
+    if s[block_at(v) + RUNNING] != 1 {
+        return Refusal::Refuse(Errno::Eperm);
+    }
+    Refusal::None
+}
+
+// ---- one access: 4 bytes aligned, or 1 byte in IPRIORITYR; all else reads 0 and ignores writes
+
+// IPRIORITYR alone takes one byte.
+fn by_byte(register: Register) -> bool
+    ensures { λ r. ⌜ r ≡ byByte register ⌝ }
+{
+    if let Register::Priority = register { true } else { false }
+}
+
+// What an access of a view reads.
+fn guest_read(s: &[u32], view: View, offset: u64, size: u64) -> u32
+    requires { ⌜ (sound (now s) ≡ true) × (seenBy view < mostVcpus) ⌝ }
+    ensures { λ r. ⌜ r ≡ guestRead (now (s .entry)) view offset size ⌝ }
+{
+    let Decoded::Listed(register, k) = register_at(view, offset) else {
+        return 0;
+    };
+    if (size == 4) & (offset % 4 == 0) {
+        return read_word(s, By::Guest, view, register, k);
+    }
+    if (size == 1) & by_byte(register) {
+        return byte_of(read_word(s, By::Guest, view, register, k), (offset % 4) as u32);
+    }
+    0
+}
+
+// Writes one byte of IPRIORITYR.
+fn write_byte(s: &mut [u32], view: View, k: usize, byte: u32, value: u64)
+    requires { ⌜ (sound (now s) ≡ true) × (seenBy view < mostVcpus) × (k < 8 * banks view) × (byte < 4) ⌝ }
+    ensures { λ _. ⌜ now (s .exit) ≡ writePriority (now (s .entry)) view (λ i. eqb i byte) k (value % 256 * 2 ^ (8 * byte)) ⌝ }
+{
+    write_priority(s, view, Bytes::One(byte), k, byte_at((value % 256) as u32, byte));
+}
+
+// Writes by an access of a view, the low bits of its size.
+fn guest_write(s: &mut [u32], view: View, offset: u64, size: u64, value: u64)
+    requires { ⌜ (sound (now s) ≡ true) × (seenBy view < mostVcpus) ⌝ }
+    ensures { λ _. ⌜ now (s .exit) ≡ guestWrite (now (s .entry)) view offset size value ⌝ }
+{
+    let Decoded::Listed(register, k) = register_at(view, offset) else {
+        return;
+    };
+    if (size == 4) & (offset % 4 == 0) {
+        write_word(s, By::Guest, view, register, k, (value % 0x1_0000_0000) as u32);
+        return;
+    }
+    if (size == 1) & by_byte(register) {
+        write_byte(s, view, k, (offset % 4) as u32, value);
+    }
+}
+
+// ---- the distributor and the frames
+
+// Reads the distributor.
+pub fn read_distributor(s: &[u32], v: VcpuIndex, offset: u64, size: u64) -> Answer
+    ensures { λ r. ⌜ Does (call (readDistributor (v .0) offset size) (now (s .entry))) (number r) (now (s .entry)) [] ⌝ }
+{
+    if let Refusal::Refuse(e) = guest_refusal(s, v) {
+        return Answer::Refused(e);
+    }
+    Answer::Value(guest_read(s, View::Distributor, offset, size))
+}
+
+// Writes the distributor.
+pub fn write_distributor(s: &mut [u32], v: VcpuIndex, offset: u64, size: u64, value: u64) -> Answer
+    ensures { λ r. ⌜ Does (call (writeDistributor (v .0) offset size value) (now (s .entry))) (number r) (now (s .exit)) [] ⌝ }
+{
+    if let Refusal::Refuse(e) = guest_refusal(s, v) {
+        return Answer::Refused(e);
+    }
+    guest_write(s, View::Distributor, offset, size, value);
+    Answer::Value(0)
+}
+
+// Reads a redistributor frame.
+pub fn read_frame(s: &[u32], v: VcpuIndex, frame: VcpuIndex, offset: u64, size: u64) -> Answer
+    ensures { λ r. ⌜ Does (call (readFrame (v .0) (frame .0) offset size) (now (s .entry))) (number r) (now (s .entry)) [] ⌝ }
+{
+    if let Refusal::Refuse(e) = frame_refusal(s, v, frame) {
+        return Answer::Refused(e);
+    }
+    Answer::Value(guest_read(s, View::Frame(frame.0), offset, size))
+}
+
+// Writes a redistributor frame.
+pub fn write_frame(s: &mut [u32], v: VcpuIndex, frame: VcpuIndex, offset: u64, size: u64, value: u64) -> Answer
+    ensures { λ r. ⌜ Does (call (writeFrame (v .0) (frame .0) offset size value) (now (s .entry))) (number r) (now (s .exit)) [] ⌝ }
+{
+    if let Refusal::Refuse(e) = frame_refusal(s, v, frame) {
+        return Answer::Refused(e);
+    }
+    guest_write(s, View::Frame(frame.0), offset, size, value);
+    Answer::Value(0)
+}
+
+// ---- line change
+
+// Whether the ID is a PPI of a vCPU that is there, or an SPI, whose line ignores the index.
+fn has_line(s: &[u32], v: VcpuIndex, id: usize) -> bool
+    requires { ⌜ length (now s) ≡ stateLength ⌝ }
+    ensures { λ r. ⌜ r ≡ hasLine (now (s .entry)) (v .0) id ⌝ }
+{
+    if (16 <= id) & (id < 32) {
+        return v.0 < s[VCPUS] as usize;
+    }
+    is_spi(s, id)
+}
+
+// 16 if not initialised; 22 a missing index, or no PPI or SPI.
+fn line_refusal(s: &[u32], v: VcpuIndex, id: usize) -> Refusal
+    ensures { λ r. ⌜ r ≡ firstFailing ((sound (now (s .entry)), Efault) ∷ (isInitialised (now (s .entry)), Ebusy) ∷ (hasLine (now (s .entry)) (v .0) id, Einval) ∷ []) ⌝ }
+{
+    if !is_sound(s) {
+        return Refusal::Refuse(Errno::Efault);
+    }
+    if s[INITIALISED] != 1 {
+        return Refusal::Refuse(Errno::Ebusy);
+    }
+    if !has_line(s, v, id) {
+        return Refusal::Refuse(Errno::Einval);
+    }
+    Refusal::None
+}
+
+// Changes the line of interrupt `i` of a bank that is lent: an edge interrupt going 0 to 1 is latched.
+fn put_line(bank: &mut [u32], i: u32, level: bool)
+    requires { ⌜ (length (now bank) ≡ 16) × (i < 32) ⌝ }
+    ensures { λ _. ⌜ now (bank .exit) ≡ lineIn (now (bank .entry)) i level ⌝ }
+{
+    let edge = has_bit(bank[EDGES + (i / 16) as usize], i % 16);
+    if edge & !has_bit(bank[LINE], i) & level {
+        bank[LATCH] = with_bit(bank[LATCH], i, true);
+    }
+    bank[LINE] = with_bit(bank[LINE], i, level);
+}
+
+// Changes the line of interrupt `id`.
+fn write_line(s: &mut [u32], v: VcpuIndex, id: usize, level: bool)
+    requires { ⌜ (sound (now s) ≡ true) × (hasLine (now s) (v .0) id ≡ true) ⌝ }
+    ensures { λ _. ⌜ now (s .exit) ≡ lineChanged (now (s .entry)) (v .0) id level ⌝ }
+{
+    // an SPI's bank is the same to all vCPUs
+    let seen = if id < 32 { v } else { VcpuIndex(0) };
+    let at = bank_at(seen, id / 32);
+    put_line(&mut s[at..at + BANK_LENGTH], (id % 32) as u32, level);
+}
+
+// Changes the line of a PPI or SPI.
+pub fn change_line(s: &mut [u32], v: VcpuIndex, id: usize, level: bool) -> Answer
+    ensures { λ r. ⌜ Does (call (changeLine (v .0) id level) (now (s .entry))) (number r) (now (s .exit)) [] ⌝ }
+{
+    if let Refusal::Refuse(e) = line_refusal(s, v, id) {
+        return Answer::Refused(e);
+    }
+    write_line(s, v, id, level);
+    Answer::Value(0)
+}

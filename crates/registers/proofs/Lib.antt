@@ -1,0 +1,2 @@
+-- The laws of the registers.
+pub mod Decoding

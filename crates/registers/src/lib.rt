@@ -1,0 +1,381 @@
+// The memory-mapped registers: decode of an offset, and reading and writing one word of a register, guest's and attribute's.
+pub mod decode;
+
+use model::By;
+use model::Flags;
+use model::Register;
+use model::Rule;
+use model::Shown;
+use model::View;
+use model::layout::ACTIVE;
+use model::layout::BANK_LENGTH;
+use model::layout::COUNT;
+use model::layout::EDGES;
+use model::layout::ENABLED;
+use model::layout::ENABLES;
+use model::layout::FRAME_STATUS;
+use model::layout::GROUP;
+use model::layout::LATCH;
+use model::layout::LINE;
+use model::layout::PRIORITIES;
+use model::layout::ROUTES;
+use model::layout::STATUS;
+use model::layout::VCPUS;
+use state::VcpuIndex;
+use state::affinity_of;
+use state::bank_at;
+use state::block_at;
+use state::is_spi;
+use words::byte_mask;
+use words::collect;
+use words::pending_of;
+use words::priority_under;
+use words::replace_under;
+use words::spread;
+use words::written_under;
+ghost use mathlib.Core.Path.{_≡_};
+ghost use mathlib.Core.Bool.{true};
+ghost use Prim.Native.Nat.{_*_, _/_, _%_, _<_};
+ghost use lib.ListN.{length, set};
+ghost use Rattle.model.specs.Words.{gather};
+ghost use Rattle.model.specs.Layout.{stateLength, mostVcpus, word, count};
+ghost use Rattle.model.specs.Sound.{sound};
+ghost use Rattle.model.specs.Registers.{banks, wordsOf, flags, shownTo, ruleFor, has, seenBy, readFlags, readPriority, readConfig, readRoute, statusAt, frameTyper, read, writeFlags, writePriority, writeConfig, writeRoute, writtenStatus, write};
+ghost use Rattle.words.specs.Words.{under, priorityUnder};
+ghost use Rattle.registers.specs.Words.{flagsMeant, prioritiesMeant, edgesMeant, shownIn, edgesUnder, means, Byte};
+
+// The bytes of a word that an access means.
+pub enum Bytes {
+    All,
+    One(u32),
+}
+
+// ---- which interrupts a view has
+
+// The vCPU whose private interrupts a view has.
+fn seen_by(view: View) -> VcpuIndex
+    ensures { λ r. ⌜ r .0 ≡ seenBy view ⌝ }
+{
+    match view {
+        View::Distributor => VcpuIndex(0),
+        View::Frame(v) => VcpuIndex(v),
+    }
+}
+
+// Whether a view has the interrupt.
+fn has_id(s: &[u32], view: View, id: usize) -> bool
+    requires { ⌜ length (now s) ≡ stateLength ⌝ }
+    ensures { λ r. ⌜ r ≡ has (now (s .entry)) view id ⌝ }
+{
+    match view {
+        View::Distributor => is_spi(s, id),
+        View::Frame(_) => id < 32,
+    }
+}
+
+// The mask of the interrupts 32k to 32k + 31 that a view has: all, none, or the 28 before ID 1020.
+fn interrupts_of(s: &[u32], view: View, k: usize) -> u32
+    requires { ⌜ (length (now s) ≡ stateLength) × (count (now s) % 32 ≡ 0) × (k < banks view) ⌝ }
+    ensures { λ r. ⌜ r ≡ flagsMeant (now (s .entry)) view 0 k ⌝ }
+{
+    if !has_id(s, view, 32 * k) {
+        return 0;
+    }
+    if k == 31 { 0x0fff_ffff } else { 0xffff_ffff }
+}
+
+// Of these, those from `least` on: 0, or 16 for lines, which SGIs do not have.
+fn flags_meant(s: &[u32], view: View, least: usize, k: usize) -> u32
+    requires { ⌜ (length (now s) ≡ stateLength) × (count (now s) % 32 ≡ 0) × (least < 32) × (k < banks view) ⌝ }
+    ensures { λ r. ⌜ r ≡ flagsMeant (now (s .entry)) view least k ⌝ }
+{
+    let all = interrupts_of(s, view, k);
+    if k == 0 { all & (0xffff_ffff << (least as u32)) } else { all }
+}
+
+// ---- 32 flags
+
+// Where the flag stands in a bank.
+fn field_of(f: Flags) -> usize
+    ensures { λ r. ⌜ (r ≡ flags f .field) × (r < 16) ⌝ }
+{
+    match f {
+        Flags::Group => GROUP,
+        Flags::SetEnable | Flags::ClearEnable => ENABLED,
+        Flags::SetPending | Flags::ClearPending => LATCH,
+        Flags::SetActive | Flags::ClearActive => ACTIVE,
+        Flags::Lines => LINE,
+    }
+}
+
+// The least ID that has it.
+fn least_of(f: Flags) -> usize
+    ensures { λ r. ⌜ (r ≡ flags f .from) × (r < 32) ⌝ }
+{
+    if let Flags::Lines = f { 16 } else { 0 }
+}
+
+// What a register shows of it.
+fn shown_to(by: By, f: Flags) -> Shown
+    ensures { λ r. ⌜ r ≡ shownTo by (flags f) ⌝ }
+{
+    match by {
+        By::Guest => match f {
+            Flags::SetPending | Flags::ClearPending => Shown::Pending,
+            Flags::Lines => Shown::Nothing,
+            _ => Shown::Flag,
+        },
+        By::Attribute => match f {
+            Flags::ClearPending => Shown::Nothing,
+            _ => Shown::Flag,
+        },
+    }
+}
+
+// What a bit written to a register does to it.
+fn rule_for(by: By, f: Flags) -> Rule
+    ensures { λ r. ⌜ r ≡ ruleFor by (flags f) ⌝ }
+{
+    match by {
+        By::Guest => match f {
+            Flags::Group => Rule::Replaces,
+            Flags::SetEnable | Flags::SetPending | Flags::SetActive => Rule::Sets,
+            Flags::ClearEnable | Flags::ClearPending | Flags::ClearActive => Rule::Clears,
+            Flags::Lines => Rule::Ignores,
+        },
+        By::Attribute => match f {
+            Flags::Group | Flags::SetPending | Flags::Lines => Rule::Replaces,
+            Flags::SetEnable | Flags::SetActive => Rule::Sets,
+            Flags::ClearEnable | Flags::ClearActive => Rule::Clears,
+            Flags::ClearPending => Rule::Ignores,
+        },
+    }
+}
+
+// What is shown of the flags in word `k` of a bank.
+fn shown_in(bank: &[u32], shown: Shown, k: usize) -> u32
+    requires { ⌜ (length (now bank) ≡ 16) × (k < 16) ⌝ }
+    ensures { λ r. ⌜ r ≡ shownIn shown k (now (bank .entry)) ⌝ }
+{
+    match shown {
+        Shown::Nothing => 0,
+        Shown::Flag => bank[k],
+        Shown::Pending => pending_of(bank),
+    }
+}
+
+// Word `k` of a register of flags.
+fn read_flags(s: &[u32], by: By, view: View, f: Flags, k: usize) -> u32
+    requires { ⌜ (length (now s) ≡ stateLength) × (count (now s) % 32 ≡ 0) × (seenBy view < mostVcpus) × (k < banks view) ⌝ }
+    ensures { λ r. ⌜ r ≡ readFlags (now (s .entry)) view (flags f .field) (flags f .from) (shownTo by (flags f)) k ⌝ }
+{
+    let at = bank_at(seen_by(view), k);
+    let shown = shown_in(&s[at..at + BANK_LENGTH], shown_to(by, f), field_of(f));
+    shown & flags_meant(s, view, least_of(f), k)
+}
+
+// Writes the flags in word `k` of a bank that is lent.
+fn put_flags(bank: &mut [u32], k: usize, rule: Rule, x: u32, m: u32)
+    requires { ⌜ (length (now bank) ≡ 16) × (k < 16) ⌝ }
+    ensures { λ _. ⌜ now (bank .exit) ≡ set (now (bank .entry)) k (under rule (word (now (bank .entry)) k) x m) ⌝ }
+{
+    bank[k] = written_under(rule, bank[k], x, m);
+}
+
+// Writes word `k` of a register of flags.
+fn write_flags(s: &mut [u32], by: By, view: View, f: Flags, k: usize, x: u32)
+    requires { ⌜ (length (now s) ≡ stateLength) × (count (now s) % 32 ≡ 0) × (seenBy view < mostVcpus) × (k < banks view) ⌝ }
+    ensures { λ _. ⌜ now (s .exit) ≡ writeFlags (now (s .entry)) view (flags f .field) (flags f .from) (ruleFor by (flags f)) k x ⌝ }
+{
+    let m = flags_meant(s, view, least_of(f), k);
+    let at = bank_at(seen_by(view), k);
+    put_flags(&mut s[at..at + BANK_LENGTH], field_of(f), rule_for(by, f), x, m);
+}
+
+// ---- four priorities
+
+// The mask of the priorities of the interrupts 4k to 4k + 3 that a view has: all or none.
+fn priorities_meant(s: &[u32], view: View, k: usize) -> u32
+    requires { ⌜ (length (now s) ≡ stateLength) × (count (now s) % 32 ≡ 0) × (k < 8 * banks view) ⌝ }
+    ensures { λ r. ⌜ r ≡ prioritiesMeant (now (s .entry)) view k ⌝ }
+{
+    if has_id(s, view, 4 * k) { 0xffff_ffff } else { 0 }
+}
+
+// Word `k` of IPRIORITYR.
+fn read_priority(s: &[u32], view: View, k: usize) -> u32
+    requires { ⌜ (length (now s) ≡ stateLength) × (count (now s) % 32 ≡ 0) × (seenBy view < mostVcpus) × (k < 8 * banks view) ⌝ }
+    ensures { λ r. ⌜ r ≡ readPriority (now (s .entry)) view k ⌝ }
+{
+    let at = bank_at(seen_by(view), k / 8);
+    s[at + PRIORITIES + k % 8] & priorities_meant(s, view, k)
+}
+
+// The mask of the bytes that an access means.
+fn bytes_meant(bytes: Bytes) -> u32
+    requires { ⌜ Byte bytes ⌝ }
+    ensures { λ r. ⌜ r ≡ gather 32 (λ i. means bytes (i / 8)) ⌝ }
+{
+    match bytes {
+        Bytes::All => 0xffff_ffff,
+        Bytes::One(b) => byte_mask(b),
+    }
+}
+
+// Writes word `k` of a bank that is lent, four priorities.
+fn put_priorities(bank: &mut [u32], k: usize, x: u32, m: u32)
+    requires { ⌜ (length (now bank) ≡ 16) × (k < 16) ⌝ }
+    ensures { λ _. ⌜ now (bank .exit) ≡ set (now (bank .entry)) k (priorityUnder (word (now (bank .entry)) k) x m) ⌝ }
+{
+    bank[k] = priority_under(bank[k], x, m);
+}
+
+// Writes bytes of word `k` of IPRIORITYR.
+pub fn write_priority(s: &mut [u32], view: View, bytes: Bytes, k: usize, x: u32)
+    requires { ⌜ (length (now s) ≡ stateLength) × (count (now s) % 32 ≡ 0) × (seenBy view < mostVcpus) × (k < 8 * banks view) × Byte bytes ⌝ }
+    ensures { λ _. ⌜ now (s .exit) ≡ writePriority (now (s .entry)) view (means bytes) k x ⌝ }
+{
+    let m = bytes_meant(bytes) & priorities_meant(s, view, k);
+    let at = bank_at(seen_by(view), k / 8);
+    put_priorities(&mut s[at..at + BANK_LENGTH], PRIORITIES + k % 8, x, m);
+}
+
+// ---- sixteen edge flags
+
+// The mask of the interrupts 16k to 16k + 15 that a view has.
+fn edges_meant(s: &[u32], view: View, k: usize) -> u32
+    requires { ⌜ (length (now s) ≡ stateLength) × (count (now s) % 32 ≡ 0) × (k < 2 * banks view) ⌝ }
+    ensures { λ r. ⌜ r ≡ edgesMeant (now (s .entry)) view k ⌝ }
+{
+    let all = interrupts_of(s, view, k / 2);
+    if k % 2 == 0 { all % 65536 } else { all >> 16 }
+}
+
+// Word `k` of ICFGR.
+fn read_config(s: &[u32], view: View, k: usize) -> u32
+    requires { ⌜ (length (now s) ≡ stateLength) × (count (now s) % 32 ≡ 0) × (seenBy view < mostVcpus) × (k < 2 * banks view) ⌝ }
+    ensures { λ r. ⌜ r ≡ readConfig (now (s .entry)) view k ⌝ }
+{
+    let at = bank_at(seen_by(view), k / 2);
+    spread(s[at + EDGES + k % 2] & edges_meant(s, view, k))
+}
+
+// Writes word `k` of a bank that is lent, sixteen edge flags; latch and line are kept.
+fn put_edges(bank: &mut [u32], k: usize, e: u32, m: u32)
+    requires { ⌜ (length (now bank) ≡ 16) × (k < 16) ⌝ }
+    ensures { λ _. ⌜ now (bank .exit) ≡ set (now (bank .entry)) k (edgesUnder (word (now (bank .entry)) k) e m) ⌝ }
+{
+    bank[k] = replace_under(bank[k], e, m) % 65536;
+}
+
+// Writes word `k` of ICFGR.
+fn write_config(s: &mut [u32], view: View, k: usize, x: u32)
+    requires { ⌜ (length (now s) ≡ stateLength) × (count (now s) % 32 ≡ 0) × (seenBy view < mostVcpus) × (k < 2 * banks view) ⌝ }
+    ensures { λ _. ⌜ now (s .exit) ≡ writeConfig (now (s .entry)) view k x ⌝ }
+{
+    let m = edges_meant(s, view, k);
+    let at = bank_at(seen_by(view), k / 2);
+    put_edges(&mut s[at..at + BANK_LENGTH], EDGES + k % 2, collect(x), m);
+}
+
+// ---- routes: a low word and a high word for each interrupt from 32 on
+
+// Word `k` of IROUTER; a high word is zero.
+fn read_route(s: &[u32], view: View, k: usize) -> u32
+    requires { ⌜ (length (now s) ≡ stateLength) × (k < 1976) ⌝ }
+    ensures { λ r. ⌜ r ≡ readRoute (now (s .entry)) view k ⌝ }
+{
+    if (k % 2 == 0) & has_id(s, view, 32 + k / 2) { s[ROUTES + k / 2] } else { 0 }
+}
+
+// Writes word `k` of IROUTER: bits 23-0 of a low word are kept.
+fn write_route(s: &mut [u32], view: View, k: usize, x: u32)
+    requires { ⌜ (length (now s) ≡ stateLength) × (k < 1976) ⌝ }
+    ensures { λ _. ⌜ now (s .exit) ≡ writeRoute (now (s .entry)) view k x ⌝ }
+{
+    if (k % 2 == 0) & has_id(s, view, 32 + k / 2) {
+        s[ROUTES + k / 2] = x % 0x0100_0000;
+    }
+}
+
+// ---- single words
+
+// Where a view's STATUSR stands.
+fn status_at(view: View) -> usize
+    requires { ⌜ seenBy view < mostVcpus ⌝ }
+    ensures { λ r. ⌜ (r ≡ statusAt view) × (r < stateLength) ⌝ }
+{
+    match view {
+        View::Distributor => STATUS,
+        View::Frame(v) => block_at(VcpuIndex(v)) + FRAME_STATUS,
+    }
+}
+
+// STATUSR after x is written to it: a guest's ones clear, an attribute stores bits 3-0.
+fn written_status(by: By, old: u32, x: u32) -> u32
+    ensures { λ r. ⌜ r ≡ writtenStatus by old x ⌝ }
+{
+    match by {
+        By::Guest => old & !x & 15,
+        By::Attribute => x % 16,
+    }
+}
+
+// The low word of a frame's TYPER: index x 256, + 16 for the last vCPU.
+fn frame_typer(s: &[u32], v: VcpuIndex) -> u32
+    requires { ⌜ (length (now s) ≡ stateLength) × (v .0 < mostVcpus) ⌝ }
+    ensures { λ r. ⌜ r ≡ frameTyper (now (s .entry)) (v .0) ⌝ }
+{
+    let index = v.0 as u32;
+    let last = if index + 1 == s[VCPUS] { 16 } else { 0 };
+    index * 256 + last
+}
+
+// ---- one word of any register
+
+// Reads word `k` of a register.
+pub fn read_word(s: &[u32], by: By, view: View, register: Register, k: usize) -> u32
+    requires { ⌜ (sound (now s) ≡ true) × (seenBy view < mostVcpus) × (k < wordsOf view register) ⌝ }
+    ensures { λ r. ⌜ r ≡ read by (now (s .entry)) view register k ⌝ }
+{
+    match register {
+        Register::Fixed(c) => c,
+        Register::Control => 0x50 + s[ENABLES],
+        Register::Typer => 0x0248_0000 + s[COUNT] / 32 - 1,
+        Register::Iidr => 0x0100_1000,
+        Register::Status => s[status_at(view)],
+        Register::Bits(f) => read_flags(s, by, view, f, k),
+        Register::Priority => read_priority(s, view, k),
+        Register::Config => read_config(s, view, k),
+        Register::Route => read_route(s, view, k),
+        Register::FrameTyper => frame_typer(s, seen_by(view)),
+        Register::FrameAffinity => affinity_of(s, seen_by(view)).0,
+    }
+}
+
+// Writes STATUSR.
+fn write_status(s: &mut [u32], by: By, view: View, x: u32)
+    requires { ⌜ (length (now s) ≡ stateLength) × (seenBy view < mostVcpus) ⌝ }
+    ensures { λ _. ⌜ now (s .exit) ≡ set (now (s .entry)) (statusAt view) (writtenStatus by (word (now (s .entry)) (statusAt view)) x) ⌝ }
+{
+    let at = status_at(view);
+    s[at] = written_status(by, s[at], x);
+}
+
+// Writes word `k` of a register. The words that never change ignore it.
+pub fn write_word(s: &mut [u32], by: By, view: View, register: Register, k: usize, x: u32)
+    requires { ⌜ (sound (now s) ≡ true) × (seenBy view < mostVcpus) × (k < wordsOf view register) ⌝ }
+    ensures { λ _. ⌜ now (s .exit) ≡ write by (now (s .entry)) view register k x ⌝ }
+{
+    match register {
+        Register::Control => {
+            s[ENABLES] = x % 4;
+        }
+        Register::Status => write_status(s, by, view, x),
+        Register::Bits(f) => write_flags(s, by, view, f, k, x),
+        Register::Priority => write_priority(s, view, Bytes::All, k, x),
+        Register::Config => write_config(s, view, k, x),
+        Register::Route => write_route(s, view, k, x),
+        _ => {}
+    }
+}
