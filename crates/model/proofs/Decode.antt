@@ -215,6 +215,21 @@ decode-words x off r k e =
     let m : k < wordsOf x (d .by .register) = omega (arith, in-row (d .by) off (d .inside)) in
     rw (d .named) at m
 
+-- a frame has no register of as many words in the distributor as ICFGR: it is writable in the distributor alone
+abbrev noConfig : Row → Bool
+noConfig r = not (eqb (wordsOf Distributor (r .register)) (wordsOf Distributor Config))
+
+frame-no-config : eachRow noConfig (rows (Frame 0)) ≡ true
+unfolding rows wordsOf banks
+frame-no-config = refl
+
+pub config-view : (x : View) (off k : ℕ) → decode (rows x) off ≡ Listed Config k → x ≡ Distributor
+unfolding rows
+config-view Distributor off k e = refl
+config-view (Frame v) off k e =
+    let d = decoded-by noConfig (rows (Frame 0)) frame-no-config off Config k e in
+    absurd (not-both (noConfig (d .by)) (d .holds) (rw (d .named) (unfold wordsOf banks in refl)))
+
 -- ---- the register at an offset, from the row
 
 pub row-at : (rs : List Row) → apart rs ≡ true → (r : Row) → List·Memᴰ r rs → (off : ℕ) → inRow r off ≡ true → decode rs off ≡ decodedIn off r

@@ -11,6 +11,7 @@ pub mod Numbers
 pub mod Best
 pub mod Level
 pub mod Masks
+pub mod Fields
 pub mod Readings
 pub mod Listed
 pub mod Sizes
@@ -18,7 +19,9 @@ pub mod Places
 pub mod Cover
 pub mod Puts
 pub mod Stores
+pub mod Writes
 pub mod Kept
+pub mod Mapped
 pub mod Mixed
 pub mod Asked
 pub mod Restores

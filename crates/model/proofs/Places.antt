@@ -30,7 +30,8 @@ use Rattle.model.specs.declared.Item.the-variants.{Mapped, System, Namel
 use Rattle.model.proofs.Bits.{bit-gather, word-is}
 use Rattle.model.proofs.Soundness.{Ready, open-vcpu}
 use Rattle.model.proofs.Decode.{decode-group, decode-set-enable, decode-set-pending, decode-set-active, decode-priority, decode-config, decode-route, decode-control, decode-status, decode-frame-priority, decode-frame-status, decode-frame-group, decode-frame-set-enable, decode-frame-set-pending, decode-frame-set-active}
-use Rattle.model.proofs.Readings.{bank-at, reads-spi-flags, reads-private-flags, reads-private-lines, reads-spi-priority, reads-private-priority, reads-spi-config, reads-route}
+use Rattle.model.proofs.Fields.{bank-at}
+use Rattle.model.proofs.Readings.{reads-spi-flags, reads-private-flags, reads-private-lines, reads-spi-priority, reads-private-priority, reads-spi-config, reads-route}
 use Rattle.model.proofs.Listed.{Kept, groups, enables, latches, actives, offsetOf, Stored, pmr, ctlr, ap0r, ap1r, igrpen0, igrpen1, encodingOf, Listed, control, status, spi-flags, spi-lines, spi-priority, spi-config, spi-route, vcpu-status, vcpu-flags, vcpu-lines, vcpu-priority, vcpu-system, bpr0, bpr1}
 use Rattle.model.proofs.Masks.{SpiWord, fits-word}
 
@@ -430,19 +431,19 @@ module _ (s : List ℕ) (h : Ready s) where
   unfolding itemPlace registerPlace plainPlace flags statusAt seenBy
   item-place control = refl
   item-place status = refl
-  item-place (spi-flags w groups q) = rw (bank-at s h 0 w (q .low))
-  item-place (spi-flags w enables q) = rw (bank-at s h 0 w (q .low))
-  item-place (spi-flags w latches q) = rw (bank-at s h 0 w (q .low))
-  item-place (spi-flags w actives q) = rw (bank-at s h 0 w (q .low))
-  item-place (spi-lines w q) = rw (bank-at s h 0 w (q .low))
+  item-place (spi-flags w groups q) = rw (bank-at 0 w (q .low))
+  item-place (spi-flags w enables q) = rw (bank-at 0 w (q .low))
+  item-place (spi-flags w latches q) = rw (bank-at 0 w (q .low))
+  item-place (spi-flags w actives q) = rw (bank-at 0 w (q .low))
+  item-place (spi-lines w q) = rw (bank-at 0 w (q .low))
   item-place (spi-priority w j q l) =
       let d : (8 * w + j) / 8 ≡ w = omega arith in
       let r : (8 * w + j) % 8 ≡ j = omega arith in
-      rw (d, r, bank-at s h 0 w (q .low))
+      rw (d, r, bank-at 0 w (q .low))
   item-place (spi-config w j q l) =
       let d : (2 * w + j) / 2 ≡ w = omega arith in
       let r : (2 * w + j) % 2 ≡ j = omega arith in
-      rw (d, r, bank-at s h 0 w (q .low))
+      rw (d, r, bank-at 0 w (q .low))
   item-place (spi-route id l m) = let e : 32 + 2 * (id - 32) / 2 ≡ id = omega arith in rw e
   item-place (vcpu-status v l) = refl
   item-place (vcpu-flags v groups l) = refl

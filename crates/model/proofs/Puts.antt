@@ -25,7 +25,8 @@ use Rattle.model.proofs.Tests.{both, implied, and-true, and-implied, be
 use Rattle.model.proofs.Within.{bit-none, fits-bit, fits-lt, fits-le, wider}
 use Rattle.model.proofs.Soundness.{Ready, open-vcpu}
 use Rattle.model.proofs.Masks.{route-bits, SpiWord, fits-word, header-word, block-word, bank-is}
-use Rattle.model.proofs.Readings.{flag-bit, priority-bit, bank-at, flag-exists, priority-exists, edge-exists, private, line-ppi}
+use Rattle.model.proofs.Fields.{flag-bit, priority-bit, edge-bit, bank-at}
+use Rattle.model.proofs.Readings.{flag-exists, priority-exists, edge-exists, private, line-ppi}
 use Rattle.model.proofs.Listed.{Listed, Kept, groups, enables, latches, actives, Stored, pmr, ctlr, ap0r, ap1r, igrpen0, igrpen1, control, status, spi-flags, spi-lines, spi-priority, spi-config, spi-route, vcpu-status, vcpu-flags, vcpu-lines, vcpu-priority, vcpu-system, bpr0, bpr1}
 use Rattle.model.proofs.Places.{storedAt, placeOf, shown, systemShape, shapeOf, plainOf, namedBy, spread-bit}
 use Rattle.model.proofs.Cover.{edge-words, spi-of, vcpu-of}
@@ -71,7 +72,7 @@ module _ (s : List ℕ) (h : Ready s) where
       at : (i : ℕ) → i < 32
           → cond (has s x (32 * b + i) && leb from (32 * b + i)) (flagAfter r (flag k s (seenBy x) (32 * b + i)) (bit w i)) (flag k s (seenBy x) (32 * b + i)) ≡ bit w i
       at i m =
-          rw (flag-bit s h (seenBy x) b k i m)
+          rw (flag-bit s (seenBy x) b k i m)
           (kept-bit (has s x (32 * b + i) && leb from (32 * b + i)) (bit (word s (bank (seenBy x) b + k)) i) (bit w i)
           (written-bit q i) (p i m) (t i m))
 
@@ -96,7 +97,7 @@ module _ (s : List ℕ) (h : Ready s) where
       at : (i : ℕ) → i < 32
           → cond (true && has s x (4 * (8 * b + j) + i / 8)) (leb 3 (i % 8) && bit w i) (bit (priority s (seenBy x) (4 * (8 * b + j) + i / 8)) (i % 8)) ≡ bit w i
       at i m =
-          rw (priority-bit s h (seenBy x) b j i l m) (kept-bit (has s x (4 * (8 * b + j) + i / 8)) (bit (word s (bank (seenBy x) b + 5 + j)) i) (bit w i)
+          rw (priority-bit s (seenBy x) b j i l m) (kept-bit (has s x (4 * (8 * b + j) + i / 8)) (bit (word s (bank (seenBy x) b + 5 + j)) i) (bit w i)
           (and-implied (leb 3 (i % 8)) (bit w i) (eights w i f m)) (p i m) (t i m))
 
   -- edge flags, as ICFGR reads them
@@ -108,17 +109,14 @@ module _ (s : List ℕ) (h : Ready s) where
   puts-config b j w q l f p t =
       let d : (2 * b + j) / 2 ≡ b = omega arith in
       let r : (2 * b + j) % 2 ≡ j = omega arith in
-      let k : bank 0 b + 13 + j ≡ 256 + 16 * b + (13 + j) = rw (bank-at s h 0 b (q .low)) (omega arith) in
+      let k : bank 0 b + 13 + j ≡ 256 + 16 * b + (13 + j) = rw (bank-at 0 b (q .low)) (omega arith) in
       rw (d, r, k) (ap (set s (256 + 16 * b + (13 + j))) (sym (word-is 16 w _ f (λ i m. sym (at i m)))))
     where
       at : (i : ℕ) → i < 16 → cond (isSpi s (16 * (2 * b + j) + i)) (bit (spread w) (2 * i + 1)) (edge s 0 (16 * (2 * b + j) + i)) ≡ bit w i
       at i m =
           let e : 16 * (2 * b + j) + i ≡ 32 * b + 16 * j + i = omega arith in
-          let d : (32 * b + 16 * j + i) / 32 ≡ b = omega arith in
-          let r : (32 * b + 16 * j + i) % 32 / 16 ≡ j = omega arith in
-          let c : (32 * b + 16 * j + i) % 16 ≡ i = omega arith in
-          let k : bank 0 b + 13 + j ≡ 256 + 16 * b + (13 + j) = rw (bank-at s h 0 b (q .low)) (omega arith) in
-          rw (e, d, r, c, k) (kept-bit (isSpi s (32 * b + 16 * j + i)) (bit (word s (256 + 16 * b + (13 + j))) i) (bit w i) (spread-bit w i m) (p i m) (t i m))
+          let k : bank 0 b + 13 + j ≡ 256 + 16 * b + (13 + j) = rw (bank-at 0 b (q .low)) (omega arith) in
+          rw (edge-bit s 0 b j i l m, e, k) (kept-bit (isSpi s (32 * b + 16 * j + i)) (bit (word s (256 + 16 * b + (13 + j))) i) (bit w i) (spread-bit w i m) (p i m) (t i m))
 
   puts-route : (id w : ℕ) → 32 ≤ id → id < min (count s) 1020 → w < 2 ^ 24 → writeRoute s Distributor (2 * (id - 32)) w ≡ set s (routeAt id) w
   unfolding writeRoute has isSpi
@@ -207,7 +205,7 @@ module _ (f s : List ℕ) (hf : Ready f) (hs : Ready s) (same : Alike f s) where
       → writeFlags s Distributor k from r w (word f (256 + 16 * w + k)) ≡ set s (256 + 16 * w + k) (word f (256 + 16 * w + k))
   unfolding has seenBy
   put-spi-flags w k from q o l g =
-      let b : bank 0 w ≡ 256 + 16 * w = bank-at s hs 0 w (o .low) in
+      let b : bank 0 w ≡ 256 + 16 * w = bank-at 0 w (o .low) in
       let at-least : (i : ℕ) → leb from (32 * w + i) ≡ true = λ i. le-leb from (32 * w + i) (omega (arith, o .low)) in
       puts-flags s hs Distributor k from w (word f (256 + 16 * w + k)) (rw b q) (fits-word f hf (256 + 16 * w + k) (omega (arith, o .high, hf .counted .most)))
       (λ i m e. and-true (flag-exists s hs w k i (spi-of f s same w o) l m (rw b at e)) (at-least i))
@@ -232,7 +230,7 @@ module _ (f s : List ℕ) (hf : Ready f) (hs : Ready s) (same : Alike f s) where
       → writePriority s Distributor (λ n. true) (8 * w + j) (word f (256 + 16 * w + (5 + j))) ≡ set s (256 + 16 * w + (5 + j)) (word f (256 + 16 * w + (5 + j)))
   unfolding has seenBy
   put-spi-priority w j q l =
-      let b : bank 0 w + 5 + j ≡ 256 + 16 * w + (5 + j) = rw (bank-at s hs 0 w (q .low)) (omega arith) in
+      let b : bank 0 w + 5 + j ≡ 256 + 16 * w + (5 + j) = rw (bank-at 0 w (q .low)) (omega arith) in
       let e : (i : ℕ) → 4 * (8 * w + j) + i / 8 ≡ 32 * w + 4 * j + i / 8 = λ i. omega arith in
       puts-priority s hs Distributor w j (word f (256 + 16 * w + (5 + j))) l (spi-eights f hf w j q l)
       (λ i m t. rw (e i) (priority-exists s hs w j i (spi-of f s same w q) l m (rw b at t)))

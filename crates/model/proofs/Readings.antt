@@ -8,7 +8,7 @@ use native.Mathlib.Omega.{arith}
 use borrow.Author.Tests.{lt-ltb, leb-true, le-leb, not-true}
 use lib.Dec.{eqb, leb}
 use lib.ListN.{getD}
-use Rattle.model.specs.Words.{bit, gather, allBelow, spread}
+use Rattle.model.specs.Words.{bit, allBelow, spread}
 use Rattle.model.specs.Layout.{word, count, vcpus, block, bank, routeAt}
 use Rattle.model.specs.Interrupts.{isPrivate, isSpi, flag, edge, priority}
 use Rattle.model.specs.Sound.{lastBankBits}
@@ -20,6 +20,7 @@ use Rattle.model.proofs.Bits.{gather-same, bit-mod, bit-shift, bit-belo
 use Rattle.model.proofs.Tests.{and-true, and-implied, not-both, below-at}
 use Rattle.model.proofs.Within.{bit-none, fits-bit}
 use Rattle.model.proofs.Soundness.{Ready}
+use Rattle.model.proofs.Fields.{bank-at, flag-bit, priority-bit, edge-bit}
 use Rattle.model.proofs.Masks.{SpiWord, fits-word, block-word, bank-bit}
 
 and-assoc : (a b c : Bool) → (a && b && c) ≡ (a && (b && c))
@@ -71,17 +72,6 @@ module _ (s : List ℕ) (h : Ready s) where
 
   -- ---- what a word of 32 flags reads
 
-  pub bank-at : (v w : ℕ) → 1 ≤ w → bank v w ≡ 256 + 16 * w
-  bank-at v zero l = absurd (omega arith)
-  bank-at v (suc w) l = refl
-
-  -- the flag of interrupt 32 w + i is bit i of the bank's word
-  pub flag-bit : (v w k i : ℕ) → i < 32 → flag k s v (32 * w + i) ≡ bit (word s (bank v w + k)) i
-  flag-bit v w k i l =
-      let d : (32 * w + i) / 32 ≡ w = omega arith in
-      let r : (32 * w + i) % 32 ≡ i = omega arith in
-      rw (d, r)
-
   -- where the interrupts that have a bit exist, a register of flags reads the word
   reads-word : (x : View) (k from w : ℕ) → word s (bank (seenBy x) w + k) < 2 ^ 32
       → ((i : ℕ) → i < 32 → bit (word s (bank (seenBy x) w + k)) i ≡ true → (has s x (32 * w + i) && leb from (32 * w + i)) ≡ true)
@@ -89,7 +79,7 @@ module _ (s : List ℕ) (h : Ready s) where
   unfolding readFlags shows
   reads-word x k from w l p =
       gather-same 32 _ (λ i. (has s x (32 * w + i) && leb from (32 * w + i)) && bit (word s (bank (seenBy x) w + k)) i)
-      (λ i m. ap (λ (b : Bool). (has s x (32 * w + i) && leb from (32 * w + i)) && b) (flag-bit (seenBy x) w k i m))
+      (λ i m. ap (λ (b : Bool). (has s x (32 * w + i) && leb from (32 * w + i)) && b) (flag-bit s (seenBy x) w k i m))
       ∙ gather-passed (word s (bank (seenBy x) w + k)) (λ i. has s x (32 * w + i) && leb from (32 * w + i)) l p
 
   pub reads-spi-flags : (w k from : ℕ) → SpiWord s w → k < 5 → from ≤ 32 → readFlags s Distributor k from Flag w ≡ word s (256 + 16 * w + k)
@@ -132,22 +122,13 @@ module _ (s : List ℕ) (h : Ready s) where
 
   -- ---- what a word of four priorities reads
 
-  -- the bit of a priority is a bit of the bank's word
-  pub priority-bit : (v w j i : ℕ) → j < 8 → i < 32 → bit (priority s v (4 * (8 * w + j) + i / 8)) (i % 8) ≡ bit (word s (bank v w + 5 + j)) i
-  priority-bit v w j i l m =
-      let d : (4 * (8 * w + j) + i / 8) / 32 ≡ w = omega arith in
-      let r : (4 * (8 * w + j) + i / 8) % 32 / 4 ≡ j = omega arith in
-      let b : (4 * (8 * w + j) + i / 8) % 4 ≡ i / 8 = omega arith in
-      let p : 8 * (i / 8) + i % 8 ≡ i = omega arith in
-      rw (d, r, b, bit-mod 8 (word s (bank v w + 5 + j) / 2 ^ (8 * (i / 8))) (i % 8) (omega arith), bit-shift (word s (bank v w + 5 + j)) (8 * (i / 8)) (i % 8), p)
-
   reads-four : (x : View) (w j : ℕ) → j < 8 → word s (bank (seenBy x) w + 5 + j) < 2 ^ 32
       → ((i : ℕ) → i < 32 → bit (word s (bank (seenBy x) w + 5 + j)) i ≡ true → has s x (4 * (8 * w + j) + i / 8) ≡ true)
       → readPriority s x (8 * w + j) ≡ word s (bank (seenBy x) w + 5 + j)
   unfolding readPriority
   reads-four x w j m l p =
       gather-same 32 _ (λ i. has s x (4 * (8 * w + j) + i / 8) && bit (word s (bank (seenBy x) w + 5 + j)) i)
-      (λ i n. ap (λ (b : Bool). has s x (4 * (8 * w + j) + i / 8) && b) (priority-bit (seenBy x) w j i m n))
+      (λ i n. ap (λ (b : Bool). has s x (4 * (8 * w + j) + i / 8) && b) (priority-bit s (seenBy x) w j i m n))
       ∙ gather-passed (word s (bank (seenBy x) w + 5 + j)) (λ i. has s x (4 * (8 * w + j) + i / 8)) l p
 
   pub reads-spi-priority : (w j : ℕ) → SpiWord s w → j < 8 → readPriority s Distributor (8 * w + j) ≡ word s (256 + 16 * w + (5 + j))
@@ -177,12 +158,9 @@ module _ (s : List ℕ) (h : Ready s) where
       at : (i : ℕ) → i < 32
           → (eqb (i % 2) 1 && isSpi s (16 * (2 * w + j) + i / 2) && edge s 0 (16 * (2 * w + j) + i / 2)) ≡ (eqb (i % 2) 1 && bit (word s (256 + 16 * w + (13 + j))) (i / 2))
       at i m =
-          let d : (16 * (2 * w + j) + i / 2) / 32 ≡ w = omega arith in
-          let r : (16 * (2 * w + j) + i / 2) % 32 / 16 ≡ j = omega arith in
-          let b : (16 * (2 * w + j) + i / 2) % 16 ≡ i / 2 = omega arith in
           let f : 16 * (2 * w + j) + i / 2 ≡ 32 * w + 16 * j + i / 2 = omega arith in
           let p : bank 0 w + 13 + j ≡ 256 + 16 * w + (13 + j) = rw (bank-at 0 w (q .low)) (omega arith) in
-          rw (d, r, b, p, f, and-assoc (eqb (i % 2) 1)) (ap (λ (t : Bool). eqb (i % 2) 1 && t) (and-implied _ _ (edge-exists w j (i / 2) q l (omega arith))))
+          rw (edge-bit s 0 w j (i / 2) l (omega arith), p, f, and-assoc (eqb (i % 2) 1)) (ap (λ (t : Bool). eqb (i % 2) 1 && t) (and-implied _ _ (edge-exists w j (i / 2) q l (omega arith))))
 
   -- ---- a route
 

@@ -1,2 +1,4 @@
 -- The laws of the registers.
 pub mod Decoding
+pub mod Meant
+pub mod Banks

@@ -35,10 +35,10 @@ use words::spread;
 use words::written_under;
 ghost use mathlib.Core.Path.{_≡_};
 ghost use mathlib.Core.Bool.{true};
-ghost use Prim.Native.Nat.{_*_, _/_, _%_, _<_};
+ghost use Prim.Native.Nat.{_+_, _*_, _/_, _%_, _≤_, _<_};
 ghost use lib.ListN.{length, set};
 ghost use Rattle.model.specs.Words.{gather};
-ghost use Rattle.model.specs.Layout.{stateLength, mostVcpus, word, count};
+ghost use Rattle.model.specs.Layout.{stateLength, mostVcpus, word, count, bank};
 ghost use Rattle.model.specs.Sound.{sound};
 ghost use Rattle.model.specs.Registers.{banks, wordsOf, flags, shownTo, ruleFor, has, seenBy, readFlags, readPriority, readConfig, readRoute, statusAt, frameTyper, read, writeFlags, writePriority, writeConfig, writeRoute, writtenStatus, write};
 ghost use Rattle.words.specs.Words.{under, priorityUnder};
@@ -60,6 +60,14 @@ fn seen_by(view: View) -> VcpuIndex
         View::Distributor => VcpuIndex(0),
         View::Frame(v) => VcpuIndex(v),
     }
+}
+
+// Where the bank of the interrupts 32k to 32k + 31 of a view starts.
+fn bank_of(view: View, k: usize) -> usize
+    requires { ⌜ (seenBy view < mostVcpus) × (k < banks view) ⌝ }
+    ensures { λ r. ⌜ (r ≡ bank (seenBy view) k) × (r + 16 ≤ 768) ⌝ }
+{
+    bank_at(seen_by(view), k)
 }
 
 // Whether a view has the interrupt.
@@ -169,7 +177,7 @@ fn read_flags(s: &[u32], by: By, view: View, f: Flags, k: usize) -> u32
     requires { ⌜ (length (now s) ≡ stateLength) × (count (now s) % 32 ≡ 0) × (seenBy view < mostVcpus) × (k < banks view) ⌝ }
     ensures { λ r. ⌜ r ≡ readFlags (now (s .entry)) view (flags f .field) (flags f .from) (shownTo by (flags f)) k ⌝ }
 {
-    let at = bank_at(seen_by(view), k);
+    let at = bank_of(view, k);
     let shown = shown_in(&s[at..at + BANK_LENGTH], shown_to(by, f), field_of(f));
     shown & flags_meant(s, view, least_of(f), k)
 }
@@ -188,7 +196,7 @@ fn write_flags(s: &mut [u32], by: By, view: View, f: Flags, k: usize, x: u32)
     ensures { λ _. ⌜ now (s .exit) ≡ writeFlags (now (s .entry)) view (flags f .field) (flags f .from) (ruleFor by (flags f)) k x ⌝ }
 {
     let m = flags_meant(s, view, least_of(f), k);
-    let at = bank_at(seen_by(view), k);
+    let at = bank_of(view, k);
     put_flags(&mut s[at..at + BANK_LENGTH], field_of(f), rule_for(by, f), x, m);
 }
 
@@ -207,7 +215,7 @@ fn read_priority(s: &[u32], view: View, k: usize) -> u32
     requires { ⌜ (length (now s) ≡ stateLength) × (count (now s) % 32 ≡ 0) × (seenBy view < mostVcpus) × (k < 8 * banks view) ⌝ }
     ensures { λ r. ⌜ r ≡ readPriority (now (s .entry)) view k ⌝ }
 {
-    let at = bank_at(seen_by(view), k / 8);
+    let at = bank_of(view, k / 8);
     s[at + PRIORITIES + k % 8] & priorities_meant(s, view, k)
 }
 
@@ -236,7 +244,7 @@ pub fn write_priority(s: &mut [u32], view: View, bytes: Bytes, k: usize, x: u32)
     ensures { λ _. ⌜ now (s .exit) ≡ writePriority (now (s .entry)) view (means bytes) k x ⌝ }
 {
     let m = bytes_meant(bytes) & priorities_meant(s, view, k);
-    let at = bank_at(seen_by(view), k / 8);
+    let at = bank_of(view, k / 8);
     put_priorities(&mut s[at..at + BANK_LENGTH], PRIORITIES + k % 8, x, m);
 }
 
@@ -256,7 +264,7 @@ fn read_config(s: &[u32], view: View, k: usize) -> u32
     requires { ⌜ (length (now s) ≡ stateLength) × (count (now s) % 32 ≡ 0) × (seenBy view < mostVcpus) × (k < 2 * banks view) ⌝ }
     ensures { λ r. ⌜ r ≡ readConfig (now (s .entry)) view k ⌝ }
 {
-    let at = bank_at(seen_by(view), k / 2);
+    let at = bank_of(view, k / 2);
     spread(s[at + EDGES + k % 2] & edges_meant(s, view, k))
 }
 
@@ -274,7 +282,7 @@ fn write_config(s: &mut [u32], view: View, k: usize, x: u32)
     ensures { λ _. ⌜ now (s .exit) ≡ writeConfig (now (s .entry)) view k x ⌝ }
 {
     let m = edges_meant(s, view, k);
-    let at = bank_at(seen_by(view), k / 2);
+    let at = bank_of(view, k / 2);
     put_edges(&mut s[at..at + BANK_LENGTH], EDGES + k % 2, collect(x), m);
 }
 

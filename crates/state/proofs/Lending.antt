@@ -57,7 +57,7 @@ pub at-mid : (a k : ℕ) (xs : List ℕ) (j : ℕ) → j < k → getD (midOf a k
 at-mid a k xs j h = getD-take k (drop a xs) j 0 h ∙ getD-drop a xs j 0
 
 -- one word stored in a part that ends at e
-one-stored : (a e : ℕ) (xs last : List ℕ) (j x : ℕ) → e ≤ length xs → a + j < e → last ≡ set (midOf a (e - a) xs) j x → putMid a (e - a) xs last ≡ set xs (a + j) x
+pub one-stored : (a e : ℕ) (xs last : List ℕ) (j x : ℕ) → e ≤ length xs → a + j < e → last ≡ set (midOf a (e - a) xs) j x → putMid a (e - a) xs last ≡ set xs (a + j) x
 unfolding stores further
 one-stored a e xs last j x l m q = rw (q, lent a (e - a) xs ((j, x) ∷ []) (omega arith) (omega arith, tt))
 

@@ -1,15 +1,18 @@
 -- Words of 32 bits that are known bit by bit: the proof for an expression of the code has the expression's shape.
-use Prim.Native.Nat.{ℕ, _*_, _-_, _%_, _^_, _<_}
-use mathlib.Core.Path.{_≡_, refl, ap, _∙_}
+use Prim.Native.Nat.{ℕ, _+_, _*_, _-_, _%_, _^_, _<_}
+use mathlib.Core.Path.{_≡_, refl, sym, ap, _∙_}
 use mathlib.Core.Bool.{Bool, true, false, not, cond, _&&_, _||_, and-true, and-false, or-true, or-false}
+use native.Mathlib.Decide.{decLt}
 use native.Mathlib.Omega.{arith}
-use lib.Dec.{eqb, ltb}
+use borrow.Author.Tests.{le-leb, lt-leb}
+use lib.Dec.{eqb, ltb, leb}
 use lib.Bits.{bitAnd, bitOr, and-lt, or-lt}
 use mir.Syntax.{w32}
 use mir.Val.{Fits}
-use Rattle.model.specs.Words.{bit, gather}
-use Rattle.model.proofs.Bits.{gather-lt, bit-gather, word-is}
-use Rattle.words.proofs.Operators.{bit-or, bit-and, bit-not, bit-one, bit-halves}
+use Rattle.model.specs.Words.{bit, gather, allBelow}
+use Rattle.model.proofs.Bits.{gather-lt, bit-gather, bit-mod, word-is}
+use Rattle.model.proofs.Tests.{below-at}
+use Rattle.words.proofs.Operators.{bit-or, bit-and, bit-not, bit-shl-low, bit-shl-high, bit-one, bit-halves}
 
 -- w is a word, and its bit i is f i
 pub record Word (w : ℕ) (f : ℕ → Bool) : Type 0 where
@@ -42,6 +45,19 @@ nots {a} x = record { small = omega arith; bits = λ i l. bit-not a i (x .small)
 
 pub one-at : {k : ℕ} → k < 32 → Word (1 * 2 ^ k % 2 ^ 32) (λ i. eqb i k)
 one-at {k} h = record { small = omega arith; bits = λ i l. bit-one k i h l }
+
+-- the bits from k on
+pub ones-from : {k : ℕ} → k < 32 → Word (0xffffffff * 2 ^ k % 2 ^ 32) (leb k)
+ones-from {k} h = record { small = omega arith; bits = λ i l. bit-mod 32 (0xffffffff * 2 ^ k) i l ∙ at i l (decLt i k) }
+  where
+    ones : allBelow (bit 0xffffffff) 32 ≡ true
+    ones = unfold allBelow bit in refl
+
+    at : (i : ℕ) → i < 32 → Dec (i < k) → bit (0xffffffff * 2 ^ k) i ≡ leb k i
+    at i l (yes m) = bit-shl-low k i 0xffffffff m ∙ sym (lt-leb k i m)
+    at i l (no m) =
+        let e : i ≡ k + (i - k) = omega arith in
+        ap (bit (0xffffffff * 2 ^ k)) e ∙ bit-shl-high k (i - k) 0xffffffff ∙ below-at (bit 0xffffffff) 32 ones (i - k) (omega arith) ∙ sym (le-leb k i (omega arith))
 
 pub halves : (lo hi : ℕ) → Word (bitOr (lo % 65536) (hi * 2 ^ 16 % 2 ^ 32)) (λ i. bit (cond (ltb i 16) lo hi) (i % 16))
 halves lo hi = record { small = or-lt 32 (lo % 65536) (hi * 2 ^ 16 % 2 ^ 32) (omega arith) (omega arith); bits = bit-halves lo hi }

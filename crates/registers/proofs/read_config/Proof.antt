@@ -3,18 +3,13 @@ use Rattle.registers.proofs.read_config.Statement.{statement}
 use Rattle.registers.proofs.read_config.Tie as tie
 use Rattle.registers.proofs.read_config.Reads as reads
 use Rattle.registers.proofs.read_config.Lts as lts
+use Rattle.registers.proofs.bank_of.Reads as bank-of-reads
 use Rattle.registers.proofs.edges_meant.Reads as edges-meant-reads
-use Rattle.registers.proofs.seen_by.Reads as seen-by-reads
-use Rattle.state.proofs.bank_at.Reads as bank-at-reads
 use Rattle.words.proofs.spread.Reads as spread-reads
 
--- src/lib.rt:267:22
-seen-by-requires : tie.Need-seen-by-requires
-seen-by-requires c κs = search needs
-
 -- src/lib.rt:267:9
-bank-at-requires : tie.Need-bank-at-requires
-bank-at-requires c κs = ?
+bank-of-requires : tie.Need-bank-of-requires
+bank-of-requires c κs = search needs
 
 -- src/lib.rt:268:14
 add-spread : tie.Need-add-spread
@@ -48,8 +43,7 @@ pub read-config-spec : {M : Type 1} → statement M
 read-config-spec =
     tie.close
     (tie.spec
-    seen-by-requires
-    bank-at-requires
+    bank-of-requires
     add-spread
     add-spread-2
     mul-spread

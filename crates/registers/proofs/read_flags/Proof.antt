@@ -3,21 +3,16 @@ use Rattle.registers.proofs.read_flags.Statement.{statement}
 use Rattle.registers.proofs.read_flags.Tie as tie
 use Rattle.registers.proofs.read_flags.Reads as reads
 use Rattle.registers.proofs.read_flags.Lts as lts
+use Rattle.registers.proofs.bank_of.Reads as bank-of-reads
 use Rattle.registers.proofs.field_of.Reads as field-of-reads
 use Rattle.registers.proofs.flags_meant.Reads as flags-meant-reads
 use Rattle.registers.proofs.least_of.Reads as least-of-reads
-use Rattle.registers.proofs.seen_by.Reads as seen-by-reads
 use Rattle.registers.proofs.shown_in.Reads as shown-in-reads
 use Rattle.registers.proofs.shown_to.Reads as shown-to-reads
-use Rattle.state.proofs.bank_at.Reads as bank-at-reads
-
--- src/lib.rt:180:22
-seen-by-requires : tie.Need-seen-by-requires
-seen-by-requires c κs = search needs
 
 -- src/lib.rt:180:9
-bank-at-requires : tie.Need-bank-at-requires
-bank-at-requires c κs = ?
+bank-of-requires : tie.Need-bank-of-requires
+bank-of-requires c κs = search needs
 
 -- src/lib.rt:181:33
 add-shown-in : tie.Need-add-shown-in
@@ -67,8 +62,7 @@ pub read-flags-spec : {M : Type 1} → statement M
 read-flags-spec =
     tie.close
     (tie.spec
-    seen-by-requires
-    bank-at-requires
+    bank-of-requires
     add-shown-in
     mul-shown-in
     sub-shown-in

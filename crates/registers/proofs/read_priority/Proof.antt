@@ -3,17 +3,12 @@ use Rattle.registers.proofs.read_priority.Statement.{statement}
 use Rattle.registers.proofs.read_priority.Tie as tie
 use Rattle.registers.proofs.read_priority.Reads as reads
 use Rattle.registers.proofs.read_priority.Lts as lts
+use Rattle.registers.proofs.bank_of.Reads as bank-of-reads
 use Rattle.registers.proofs.priorities_meant.Reads as priorities-meant-reads
-use Rattle.registers.proofs.seen_by.Reads as seen-by-reads
-use Rattle.state.proofs.bank_at.Reads as bank-at-reads
-
--- src/lib.rt:218:22
-seen-by-requires : tie.Need-seen-by-requires
-seen-by-requires c κs = search needs
 
 -- src/lib.rt:218:9
-bank-at-requires : tie.Need-bank-at-requires
-bank-at-requires c κs = ?
+bank-of-requires : tie.Need-bank-of-requires
+bank-of-requires c κs = search needs
 
 -- src/lib.rt:219:7
 add-result : tie.Need-add-result
@@ -43,8 +38,7 @@ pub read-priority-spec : {M : Type 1} → statement M
 read-priority-spec =
     tie.close
     (tie.spec
-    seen-by-requires
-    bank-at-requires
+    bank-of-requires
     add-result
     add-result-2
     mul-result

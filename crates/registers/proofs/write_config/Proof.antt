@@ -3,23 +3,18 @@ use Rattle.registers.proofs.write_config.Statement.{statement}
 use Rattle.registers.proofs.write_config.Tie as tie
 use Rattle.registers.proofs.write_config.Reads as reads
 use Rattle.registers.proofs.write_config.Lts as lts
+use Rattle.registers.proofs.bank_of.Reads as bank-of-reads
 use Rattle.registers.proofs.edges_meant.Reads as edges-meant-reads
 use Rattle.registers.proofs.put_edges.Reads as put-edges-reads
-use Rattle.registers.proofs.seen_by.Reads as seen-by-reads
-use Rattle.state.proofs.bank_at.Reads as bank-at-reads
 use Rattle.words.proofs.collect.Reads as collect-reads
 
 -- src/lib.rt:284:9
 edges-meant-requires : tie.Need-edges-meant-requires
 edges-meant-requires c κs = search needs
 
--- src/lib.rt:285:22
-seen-by-requires : tie.Need-seen-by-requires
-seen-by-requires c κs = search needs
-
 -- src/lib.rt:285:9
-bank-at-requires : tie.Need-bank-at-requires
-bank-at-requires c κs = ?
+bank-of-requires : tie.Need-bank-of-requires
+bank-of-requires c κs = search needs
 
 -- src/lib.rt:286:26
 add-put-edges : tie.Need-add-put-edges
@@ -66,8 +61,7 @@ write-config-spec =
     tie.close
     (tie.spec
     edges-meant-requires
-    seen-by-requires
-    bank-at-requires
+    bank-of-requires
     add-put-edges
     mul-put-edges
     sub-put-edges

@@ -3,13 +3,12 @@ use Rattle.registers.proofs.write_flags.Statement.{statement}
 use Rattle.registers.proofs.write_flags.Tie as tie
 use Rattle.registers.proofs.write_flags.Reads as reads
 use Rattle.registers.proofs.write_flags.Lts as lts
+use Rattle.registers.proofs.bank_of.Reads as bank-of-reads
 use Rattle.registers.proofs.field_of.Reads as field-of-reads
 use Rattle.registers.proofs.flags_meant.Reads as flags-meant-reads
 use Rattle.registers.proofs.least_of.Reads as least-of-reads
 use Rattle.registers.proofs.put_flags.Reads as put-flags-reads
 use Rattle.registers.proofs.rule_for.Reads as rule-for-reads
-use Rattle.registers.proofs.seen_by.Reads as seen-by-reads
-use Rattle.state.proofs.bank_at.Reads as bank-at-reads
 
 -- src/lib.rt:198:34
 least-of-requires : tie.Need-least-of-requires
@@ -19,13 +18,9 @@ least-of-requires c κs = search needs
 flags-meant-requires : tie.Need-flags-meant-requires
 flags-meant-requires c κs = search needs
 
--- src/lib.rt:199:22
-seen-by-requires : tie.Need-seen-by-requires
-seen-by-requires c κs = search needs
-
 -- src/lib.rt:199:9
-bank-at-requires : tie.Need-bank-at-requires
-bank-at-requires c κs = ?
+bank-of-requires : tie.Need-bank-of-requires
+bank-of-requires c κs = search needs
 
 -- src/lib.rt:200:26
 add-put-flags : tie.Need-add-put-flags
@@ -73,8 +68,7 @@ write-flags-spec =
     (tie.spec
     least-of-requires
     flags-meant-requires
-    seen-by-requires
-    bank-at-requires
+    bank-of-requires
     add-put-flags
     mul-put-flags
     sub-put-flags

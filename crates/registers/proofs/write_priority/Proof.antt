@@ -3,11 +3,10 @@ use Rattle.registers.proofs.write_priority.Statement.{statement}
 use Rattle.registers.proofs.write_priority.Tie as tie
 use Rattle.registers.proofs.write_priority.Reads as reads
 use Rattle.registers.proofs.write_priority.Lts as lts
+use Rattle.registers.proofs.bank_of.Reads as bank-of-reads
 use Rattle.registers.proofs.bytes_meant.Reads as bytes-meant-reads
 use Rattle.registers.proofs.priorities_meant.Reads as priorities-meant-reads
 use Rattle.registers.proofs.put_priorities.Reads as put-priorities-reads
-use Rattle.registers.proofs.seen_by.Reads as seen-by-reads
-use Rattle.state.proofs.bank_at.Reads as bank-at-reads
 
 -- src/lib.rt:246:13
 bytes-meant-requires : tie.Need-bytes-meant-requires
@@ -17,13 +16,9 @@ bytes-meant-requires c κs = search needs
 priorities-meant-requires : tie.Need-priorities-meant-requires
 priorities-meant-requires c κs = search needs
 
--- src/lib.rt:247:22
-seen-by-requires : tie.Need-seen-by-requires
-seen-by-requires c κs = search needs
-
 -- src/lib.rt:247:9
-bank-at-requires : tie.Need-bank-at-requires
-bank-at-requires c κs = ?
+bank-of-requires : tie.Need-bank-of-requires
+bank-of-requires c κs = search needs
 
 -- src/lib.rt:248:31
 add-put-priorities : tie.Need-add-put-priorities
@@ -67,8 +62,7 @@ write-priority-spec =
     (tie.spec
     bytes-meant-requires
     priorities-meant-requires
-    seen-by-requires
-    bank-at-requires
+    bank-of-requires
     add-put-priorities
     mul-put-priorities
     sub-put-priorities
