@@ -93,7 +93,11 @@ fn frame_refusal(s: &[u32], v: VcpuIndex, frame: VcpuIndex) -> Refusal
 fn by_byte(register: Register) -> bool
     ensures { λ r. ⌜ r ≡ byByte register ⌝ }
 {
-    if let Register::Priority = register { true } else { false }
+    if let Register::Priority = register {
+        true
+    } else {
+        false
+    }
 }
 
 // What an access of a view reads.
@@ -108,7 +112,10 @@ fn guest_read(s: &[u32], view: View, offset: u64, size: u64) -> u32
         return read_word(s, By::Guest, view, register, k);
     }
     if (size == 1) & by_byte(register) {
-        return byte_of(read_word(s, By::Guest, view, register, k), (offset % 4) as u32);
+        return byte_of(
+            read_word(s, By::Guest, view, register, k),
+            (offset % 4) as u32,
+        );
     }
     0
 }
@@ -118,7 +125,13 @@ fn write_byte(s: &mut [u32], view: View, k: usize, byte: u32, value: u64)
     requires { ⌜ (sound (now s) ≡ true) × (seenBy view < mostVcpus) × (k < 8 * banks view) × (byte < 4) ⌝ }
     ensures { λ _. ⌜ now (s .exit) ≡ writePriority (now (s .entry)) view (λ i. eqb i byte) k (value % 256 * 2 ^ (8 * byte)) ⌝ }
 {
-    write_priority(s, view, Bytes::One(byte), k, byte_at((value % 256) as u32, byte));
+    write_priority(
+        s,
+        view,
+        Bytes::One(byte),
+        k,
+        byte_at((value % 256) as u32, byte),
+    );
 }
 
 // Writes by an access of a view, the low bits of its size.
@@ -130,7 +143,14 @@ fn guest_write(s: &mut [u32], view: View, offset: u64, size: u64, value: u64)
         return;
     };
     if (size == 4) & (offset % 4 == 0) {
-        write_word(s, By::Guest, view, register, k, (value % 0x1_0000_0000) as u32);
+        write_word(
+            s,
+            By::Guest,
+            view,
+            register,
+            k,
+            (value % 0x1_0000_0000) as u32,
+        );
         return;
     }
     if (size == 1) & by_byte(register) {
@@ -172,7 +192,14 @@ pub fn read_frame(s: &[u32], v: VcpuIndex, frame: VcpuIndex, offset: u64, size: 
 }
 
 // Writes a redistributor frame.
-pub fn write_frame(s: &mut [u32], v: VcpuIndex, frame: VcpuIndex, offset: u64, size: u64, value: u64) -> Answer
+pub fn write_frame(
+    s: &mut [u32],
+    v: VcpuIndex,
+    frame: VcpuIndex,
+    offset: u64,
+    size: u64,
+    value: u64,
+) -> Answer
     ensures { λ r. ⌜ Does (call (writeFrame (v .0) (frame .0) offset size value) (now (s .entry))) (number r) (now (s .exit)) [] ⌝ }
 {
     if let Refusal::Refuse(e) = frame_refusal(s, v, frame) {

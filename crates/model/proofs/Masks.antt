@@ -3,16 +3,16 @@ use Prim.Native.Nat.{ℕ, _+_, _*_, _-_, _/_, _%_, _^_, _≤_, _<_, min}
 use mathlib.Core.Path.{_≡_, sym, ap, _∙_, subst}
 use mathlib.Core.Bool.{Bool, true, false, cond, _&&_}
 use mathlib.Core.List.{List}
-use native.Mathlib.Decide.{decLt}
+use native.Mathlib.Decide.{ℕ-discrete, decLt}
 use native.Mathlib.Omega.{arith}
 use borrow.Author.Tests.{lt-ltb, le-ltb}
 use lib.Dec.{ltb}
 use lib.ListN.{getD}
 use Rattle.model.specs.Words.{bit}
-use Rattle.model.specs.Layout.{stateLength, word, count, vcpus, block, routeAt}
-use Rattle.model.specs.Sound.{fits, usedBits, freshBits, entry, headerBits, blockBits, bankBits, lastBankBits, freshBlockBits}
-use Rattle.model.proofs.Within.{fits-lt, fits-bit}
-use Rattle.model.proofs.Soundness.{Ready}
+use Rattle.model.specs.Layout.{stateLength, word, initialised, count, vcpus, block, routeAt}
+use Rattle.model.specs.Sound.{fits, usedBits, freshBits, entry, headerBits, blockBits, bankBits, lastBankBits, freshBlockBits, sound}
+use Rattle.model.proofs.Within.{fits-lt, fits-le, fits-bit, fits-none}
+use Rattle.model.proofs.Soundness.{Sound, open-sound, setup-mark, word-fresh, Ready, ready}
 
 -- ---- the bits that a word may have, region by region
 
@@ -118,3 +118,17 @@ module _ (s : List ℕ) (h : Ready s) where
   bank-bit {C} w j i q l a b t =
       bank-is (λ (x : ℕ). bit x i ≡ true → C) w j q l a b
       (fits-bit (word s (256 + 16 * w + j)) (usedBits (count s) (vcpus s) (256 + 16 * w + j)) i (h .used (256 + 16 * w + j) (omega (arith, q .high, h .counted .most))) t)
+
+-- a sound state has no group enable but the two
+pub sound-enables : (s : List ℕ) → sound s ≡ true → word s 3 < 4
+unfolding freshBits entry
+sound-enables s e = step (ℕ-discrete (initialised s) 1)
+  where
+    h : Sound s
+    h = open-sound s e
+
+    step : Dec (initialised s ≡ 1) → word s 3 < 4
+    step (yes i) = omega (arith, fits-le (word s 3) 3 (header-word s (ready s e i) 3 (omega arith)))
+    step (no i) =
+        let z : initialised s ≡ 0 = omega (arith, setup-mark (initialised s) (count s) (vcpus s) (h .set-up)) in
+        omega (arith, fits-none (word s 3) (rw (word-fresh s z 3 (word s 3)) at (h .each-word 3 (omega arith))))

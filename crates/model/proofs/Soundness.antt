@@ -103,6 +103,12 @@ module _ (s : List ℕ) where
 pub sound-vcpus : (s : List ℕ) → sound s ≡ true → vcpus s ≤ mostVcpus
 sound-vcpus s e = setup-vcpus (initialised s) (count s) (vcpus s) (open-sound s e .set-up)
 
+-- its count is a multiple of 32, at most 1024
+pub sound-count : (s : List ℕ) → sound s ≡ true → (count s ≤ 1024) × (count s % 32 ≡ 0)
+sound-count s e =
+    ⊎-elim (λ z. let q = eqb-true (count s) 0 z in (omega arith, omega arith)) (λ z. (is-count (count s) z .most, is-count (count s) z .step))
+    (either (eqb (count s) 0) (isCount (count s)) (setup-counted (initialised s) (count s) (vcpus s) (open-sound s e .set-up)))
+
 -- ---- a sound, initialised device: its numbers, and the bits that each word may have
 
 pub record Ready (s : List ℕ) : Type 0 where

@@ -87,8 +87,15 @@ module _ (s : List ℕ) (x : View) (at : ℕ) where
       at-bit : (i : ℕ) → i < 32
           → (eqb (i % 2) 1 && bit (bitAnd (word s (at + 13 + k % 2)) m) (i / 2)) ≡ (eqb (i % 2) 1 && has s x (16 * k + i / 2) && edge s (seenBy x) (16 * k + i / 2))
       at-bit i l =
-          rw (and-assoc (eqb (i % 2) 1), bit-and (word s (at + 13 + k % 2)) m (i / 2), and-swap (bit (word s (at + 13 + k % 2)) (i / 2)), q,
-          bit-gather 16 (λ j. has s x (16 * k + j)) (i / 2) (omega arith), of-sixteen s (seenBy x) k (i / 2) (omega arith), e)
+          rw (
+            and-assoc (eqb (i % 2) 1),
+            bit-and (word s (at + 13 + k % 2)) m (i / 2),
+            and-swap (bit (word s (at + 13 + k % 2)) (i / 2)),
+            q,
+            bit-gather 16 (λ j. has s x (16 * k + j)) (i / 2) (omega arith),
+            of-sixteen s (seenBy x) k (i / 2) (omega arith),
+            e,
+          )
 
 -- ---- writing, through the lent bank
 

@@ -98,7 +98,11 @@ fn flags_meant(s: &[u32], view: View, least: usize, k: usize) -> u32
     ensures { λ r. ⌜ r ≡ flagsMeant (now (s .entry)) view least k ⌝ }
 {
     let all = interrupts_of(s, view, k);
-    if k == 0 { all & (0xffff_ffff << (least as u32)) } else { all }
+    if k == 0 {
+        all & (0xffff_ffff << (least as u32))
+    } else {
+        all
+    }
 }
 
 // ---- 32 flags
@@ -109,9 +113,12 @@ fn field_of(f: Flags) -> usize
 {
     match f {
         Flags::Group => GROUP,
-        Flags::SetEnable | Flags::ClearEnable => ENABLED,
-        Flags::SetPending | Flags::ClearPending => LATCH,
-        Flags::SetActive | Flags::ClearActive => ACTIVE,
+        Flags::SetEnable => ENABLED,
+        Flags::ClearEnable => ENABLED,
+        Flags::SetPending => LATCH,
+        Flags::ClearPending => LATCH,
+        Flags::SetActive => ACTIVE,
+        Flags::ClearActive => ACTIVE,
         Flags::Lines => LINE,
     }
 }
@@ -120,22 +127,39 @@ fn field_of(f: Flags) -> usize
 fn least_of(f: Flags) -> usize
     ensures { λ r. ⌜ (r ≡ flags f .from) × (r < 32) ⌝ }
 {
-    if let Flags::Lines = f { 16 } else { 0 }
+    match f {
+        Flags::Group => 0,
+        Flags::SetEnable => 0,
+        Flags::ClearEnable => 0,
+        Flags::SetPending => 0,
+        Flags::ClearPending => 0,
+        Flags::SetActive => 0,
+        Flags::ClearActive => 0,
+        Flags::Lines => 16,
+    }
 }
 
 // What a register shows of it.
 fn shown_to(by: By, f: Flags) -> Shown
     ensures { λ r. ⌜ r ≡ shownTo by (flags f) ⌝ }
 {
-    match by {
-        By::Guest => match f {
-            Flags::SetPending | Flags::ClearPending => Shown::Pending,
-            Flags::Lines => Shown::Nothing,
-            _ => Shown::Flag,
+    match f {
+        Flags::Group => Shown::Flag,
+        Flags::SetEnable => Shown::Flag,
+        Flags::ClearEnable => Shown::Flag,
+        Flags::SetPending => match by {
+            By::Guest => Shown::Pending,
+            By::Attribute => Shown::Flag,
         },
-        By::Attribute => match f {
-            Flags::ClearPending => Shown::Nothing,
-            _ => Shown::Flag,
+        Flags::ClearPending => match by {
+            By::Guest => Shown::Pending,
+            By::Attribute => Shown::Nothing,
+        },
+        Flags::SetActive => Shown::Flag,
+        Flags::ClearActive => Shown::Flag,
+        Flags::Lines => match by {
+            By::Guest => Shown::Nothing,
+            By::Attribute => Shown::Flag,
         },
     }
 }
@@ -144,18 +168,23 @@ fn shown_to(by: By, f: Flags) -> Shown
 fn rule_for(by: By, f: Flags) -> Rule
     ensures { λ r. ⌜ r ≡ ruleFor by (flags f) ⌝ }
 {
-    match by {
-        By::Guest => match f {
-            Flags::Group => Rule::Replaces,
-            Flags::SetEnable | Flags::SetPending | Flags::SetActive => Rule::Sets,
-            Flags::ClearEnable | Flags::ClearPending | Flags::ClearActive => Rule::Clears,
-            Flags::Lines => Rule::Ignores,
+    match f {
+        Flags::Group => Rule::Replaces,
+        Flags::SetEnable => Rule::Sets,
+        Flags::ClearEnable => Rule::Clears,
+        Flags::SetPending => match by {
+            By::Guest => Rule::Sets,
+            By::Attribute => Rule::Replaces,
         },
-        By::Attribute => match f {
-            Flags::Group | Flags::SetPending | Flags::Lines => Rule::Replaces,
-            Flags::SetEnable | Flags::SetActive => Rule::Sets,
-            Flags::ClearEnable | Flags::ClearActive => Rule::Clears,
-            Flags::ClearPending => Rule::Ignores,
+        Flags::ClearPending => match by {
+            By::Guest => Rule::Clears,
+            By::Attribute => Rule::Ignores,
+        },
+        Flags::SetActive => Rule::Sets,
+        Flags::ClearActive => Rule::Clears,
+        Flags::Lines => match by {
+            By::Guest => Rule::Ignores,
+            By::Attribute => Rule::Replaces,
         },
     }
 }
@@ -197,7 +226,13 @@ fn write_flags(s: &mut [u32], by: By, view: View, f: Flags, k: usize, x: u32)
 {
     let m = flags_meant(s, view, least_of(f), k);
     let at = bank_of(view, k);
-    put_flags(&mut s[at..at + BANK_LENGTH], field_of(f), rule_for(by, f), x, m);
+    put_flags(
+        &mut s[at..at + BANK_LENGTH],
+        field_of(f),
+        rule_for(by, f),
+        x,
+        m,
+    );
 }
 
 // ---- four priorities
@@ -207,7 +242,11 @@ fn priorities_meant(s: &[u32], view: View, k: usize) -> u32
     requires { ⌜ (length (now s) ≡ stateLength) × (count (now s) % 32 ≡ 0) × (k < 8 * banks view) ⌝ }
     ensures { λ r. ⌜ r ≡ prioritiesMeant (now (s .entry)) view k ⌝ }
 {
-    if has_id(s, view, 4 * k) { 0xffff_ffff } else { 0 }
+    if has_id(s, view, 4 * k) {
+        0xffff_ffff
+    } else {
+        0
+    }
 }
 
 // Word `k` of IPRIORITYR.
@@ -293,7 +332,11 @@ fn read_route(s: &[u32], view: View, k: usize) -> u32
     requires { ⌜ (length (now s) ≡ stateLength) × (k < 1976) ⌝ }
     ensures { λ r. ⌜ r ≡ readRoute (now (s .entry)) view k ⌝ }
 {
-    if (k % 2 == 0) & has_id(s, view, 32 + k / 2) { s[ROUTES + k / 2] } else { 0 }
+    if (k % 2 == 0) & has_id(s, view, 32 + k / 2) {
+        s[ROUTES + k / 2]
+    } else {
+        0
+    }
 }
 
 // Writes word `k` of IROUTER: bits 23-0 of a low word are kept.
@@ -324,7 +367,7 @@ fn written_status(by: By, old: u32, x: u32) -> u32
     ensures { λ r. ⌜ r ≡ writtenStatus by old x ⌝ }
 {
     match by {
-        By::Guest => old & !x & 15,
+        By::Guest => (old & !x) % 16,
         By::Attribute => x % 16,
     }
 }
@@ -335,8 +378,11 @@ fn frame_typer(s: &[u32], v: VcpuIndex) -> u32
     ensures { λ r. ⌜ r ≡ frameTyper (now (s .entry)) (v .0) ⌝ }
 {
     let index = v.0 as u32;
-    let last = if index + 1 == s[VCPUS] { 16 } else { 0 };
-    index * 256 + last
+    if index + 1 == s[VCPUS] {
+        index * 256 + 16
+    } else {
+        index * 256
+    }
 }
 
 // ---- one word of any register
@@ -384,6 +430,10 @@ pub fn write_word(s: &mut [u32], by: By, view: View, register: Register, k: usiz
         Register::Priority => write_priority(s, view, Bytes::All, k, x),
         Register::Config => write_config(s, view, k, x),
         Register::Route => write_route(s, view, k, x),
-        _ => {}
+        Register::Fixed(_) => {}
+        Register::Typer => {}
+        Register::Iidr => {}
+        Register::FrameTyper => {}
+        Register::FrameAffinity => {}
     }
 }

@@ -115,7 +115,14 @@ pub fn read_frame(state: &[u32], v: VcpuIndex, frame: VcpuIndex, offset: u64, si
 }
 
 // Writes `size` bytes of the redistributor frame of a vCPU.
-pub fn write_frame(state: &mut [u32], v: VcpuIndex, frame: VcpuIndex, offset: u64, size: u64, value: u64) -> i64
+pub fn write_frame(
+    state: &mut [u32],
+    v: VcpuIndex,
+    frame: VcpuIndex,
+    offset: u64,
+    size: u64,
+    value: u64,
+) -> i64
     ensures { λ r. ⌜ Does (call (writeFrame (v .0) (frame .0) offset size value) (now (state .entry))) r (now (state .exit)) [] ⌝ }
 {
     number_of(access::write_frame(state, v, frame, offset, size, value))

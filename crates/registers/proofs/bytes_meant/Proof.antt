@@ -1,30 +1,26 @@
+-- `registers::bytes_meant` meets its contract.
+use mathlib.Core.Path.{_≡_}
+use Prim.Native.Nat.{ℕ, _<_}
 use borrow.Author.Needs.{needs}
+use Rattle.model.specs.Words.{gather}
+use Rattle.words.specs.Words.{byteMask}
+use Rattle.registers.specs.Words.{means, Byte}
+use Rattle.registers.specs.declared.Bytes.{Bytes}
+use Rattle.registers.specs.declared.Bytes.the-variants.{One}
 use Rattle.registers.proofs.bytes_meant.Statement.{statement}
 use Rattle.registers.proofs.bytes_meant.Tie as tie
-use Rattle.registers.proofs.bytes_meant.Reads as reads
-use Rattle.registers.proofs.bytes_meant.Lts as lts
-use Rattle.words.proofs.byte_mask.Reads as byte-mask-reads
 
--- src/lib.rt:228:23
-enum-told : tie.Need-enum-told
-enum-told c = search needs
+-- the one byte is one of the four
+one-of-four : (x : Bytes) (b : ℕ) → x ≡ One b → Byte x → b < 4
+one-of-four x b e h = rw e at h
 
--- src/lib.rt:229:20
-enum-known-bytes : tie.Need-enum-known-bytes
-enum-known-bytes c = search needs
-
--- src/lib.rt:229:26
-byte-mask-requires : tie.Need-byte-mask-requires
-byte-mask-requires c κs = ?
-
--- src/lib.rt:223:1
 returns : tie.Need-returns
-returns c = ?
+unfolding means gather
+returns c = rw (c .enum-told .given .1)
 
--- src/lib.rt:223:1
 returns-2 : tie.Need-returns-2
-returns-2 c = ?
+unfolding means byteMask
+returns-2 c = rw (c .before .before .bytes .given .1) (c .byte-mask .ensures)
 
 pub bytes-meant-spec : {M : Type 1} → statement M
-bytes-meant-spec =
-    tie.close (tie.spec enum-told enum-known-bytes byte-mask-requires returns returns-2)
+bytes-meant-spec = tie.close (tie.spec (λ c. search needs) (λ c. search needs) (λ c κs. search one-of-four) returns returns-2)
