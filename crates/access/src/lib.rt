@@ -11,7 +11,6 @@ use model::layout::EDGES;
 use model::layout::INITIALISED;
 use model::layout::LATCH;
 use model::layout::LINE;
-use model::layout::RUNNING;
 use model::layout::VCPUS;
 use registers::Bytes;
 use registers::decode::register_at;
@@ -20,27 +19,29 @@ use registers::write_priority;
 use registers::write_word;
 use state::VcpuIndex;
 use state::bank_at;
-use state::block_at;
 use state::is_sound;
 use state::is_spi;
+use state::running_of;
+use state::wide;
 use words::byte_at;
 use words::byte_of;
 use words::has_bit;
 use words::with_bit;
 ghost use mathlib.Core.Path.{_≡_};
 ghost use mathlib.Core.List.{[], _∷_};
-ghost use mathlib.Core.Bool.{true};
-ghost use Prim.Native.Nat.{_*_, _%_, _^_, _<_};
+ghost use mathlib.Core.Bool.{true, cond};
+ghost use Prim.Native.Nat.{_*_, _%_, _^_, _≤_, _<_};
 ghost use lib.Dec.{eqb};
 ghost use lib.ListN.{length};
-ghost use Rattle.model.specs.Layout.{stateLength, mostVcpus, isInitialised};
+ghost use Rattle.model.specs.Layout.{stateLength, mostVcpus, vcpus, isInitialised};
+ghost use Rattle.model.specs.Interrupts.{isPrivate};
 ghost use Rattle.model.specs.Sound.{sound};
 ghost use Rattle.model.specs.Refusals.{firstFailing, number};
 ghost use Rattle.model.specs.Registers.{banks, seenBy, byByte, writePriority, guestRead, guestWrite};
 ghost use Rattle.model.specs.Lines.{lineChanged};
 ghost use Rattle.model.specs.Calls.{Does, call, guestChecks, frameChecks, hasLine, readDistributor, writeDistributor, readFrame, writeFrame, changeLine};
 ghost use Rattle.model.specs.declared.Errno.the-variants.{Efault, Ebusy, Einval};
-ghost use Rattle.access.specs.Lines.{lineIn};
+ghost use Rattle.access.specs.Lines.{risesIn, latchedIn, lineIn};
 
 // ---- refusals
 
@@ -58,7 +59,7 @@ fn guest_refusal(s: &[u32], v: VcpuIndex) -> Refusal
     if v.0 >= n {
         return Refusal::Refuse(Errno::Einval);
     }
-    if s[block_at(v) + RUNNING] != 1 {
+    if running_of(s, v) != 1 {
         return Refusal::Refuse(Errno::Eperm);
     }
     Refusal::None
@@ -81,7 +82,7 @@ fn frame_refusal(s: &[u32], v: VcpuIndex, frame: VcpuIndex) -> Refusal
     if frame.0 >= n {
         return Refusal::Refuse(Errno::Einval);
     }
-    if s[block_at(v) + RUNNING] != 1 {
+    if running_of(s, v) != 1 {
         return Refusal::Refuse(Errno::Eperm);
     }
     Refusal::None
@@ -217,7 +218,7 @@ fn has_line(s: &[u32], v: VcpuIndex, id: usize) -> bool
     ensures { λ r. ⌜ r ≡ hasLine (now (s .entry)) (v .0) id ⌝ }
 {
     if (16 <= id) & (id < 32) {
-        return v.0 < s[VCPUS] as usize;
+        return v.0 < wide(s[VCPUS]);
     }
     is_spi(s, id)
 }
@@ -238,26 +239,47 @@ fn line_refusal(s: &[u32], v: VcpuIndex, id: usize) -> Refusal
     Refusal::None
 }
 
+// Whether interrupt `i` of a bank is edge, and its line goes 0 to 1.
+fn rises(bank: &[u32], i: u32, level: bool) -> bool
+    requires { ⌜ (length (now bank) ≡ 16) × (i < 32) ⌝ }
+    ensures { λ r. ⌜ r ≡ risesIn (now (bank .entry)) i level ⌝ }
+{
+    has_bit(bank[EDGES + (i / 16) as usize], i % 16) & !has_bit(bank[LINE], i) & level
+}
+
+// Latches interrupt `i` of a bank that is lent, where `on` says so.
+fn put_latch(bank: &mut [u32], i: u32, on: bool)
+    requires { ⌜ (length (now bank) ≡ 16) × (i < 32) ⌝ }
+    ensures { λ _. ⌜ now (bank .exit) ≡ latchedIn (now (bank .entry)) i on ⌝ }
+{
+    if on {
+        bank[LATCH] = with_bit(bank[LATCH], i, true);
+    }
+}
+
 // Changes the line of interrupt `i` of a bank that is lent: an edge interrupt going 0 to 1 is latched.
 fn put_line(bank: &mut [u32], i: u32, level: bool)
     requires { ⌜ (length (now bank) ≡ 16) × (i < 32) ⌝ }
     ensures { λ _. ⌜ now (bank .exit) ≡ lineIn (now (bank .entry)) i level ⌝ }
 {
-    let edge = has_bit(bank[EDGES + (i / 16) as usize], i % 16);
-    if edge & !has_bit(bank[LINE], i) & level {
-        bank[LATCH] = with_bit(bank[LATCH], i, true);
-    }
+    let on = rises(bank, i, level);
+    put_latch(bank, i, on);
     bank[LINE] = with_bit(bank[LINE], i, level);
+}
+
+// A vCPU that sees the interrupt: `v` its private ones, an SPI any.
+fn seen_by(v: VcpuIndex, id: usize) -> VcpuIndex
+    ensures { λ r. ⌜ r .0 ≡ cond (isPrivate id) (v .0) 0 ⌝ }
+{
+    if id < 32 { v } else { VcpuIndex(0) }
 }
 
 // Changes the line of interrupt `id`.
 fn write_line(s: &mut [u32], v: VcpuIndex, id: usize, level: bool)
-    requires { ⌜ (sound (now s) ≡ true) × (hasLine (now s) (v .0) id ≡ true) ⌝ }
+    requires { ⌜ (length (now s) ≡ stateLength) × (vcpus (now s) ≤ mostVcpus) × (hasLine (now s) (v .0) id ≡ true) ⌝ }
     ensures { λ _. ⌜ now (s .exit) ≡ lineChanged (now (s .entry)) (v .0) id level ⌝ }
 {
-    // an SPI's bank is the same to all vCPUs
-    let seen = if id < 32 { v } else { VcpuIndex(0) };
-    let at = bank_at(seen, id / 32);
+    let at = bank_at(seen_by(v, id), id / 32);
     put_line(&mut s[at..at + BANK_LENGTH], (id % 32) as u32, level);
 }
 

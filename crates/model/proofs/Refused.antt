@@ -64,6 +64,10 @@ pub tests-next : (c : Call) (s : List ℕ) → acceptable (lentTo c) s ≡ true 
 unfolding refusal
 tests-next c s e = rw (e, refusal)
 
+pub refusal-list : (c : Call) (s : List ℕ) → refusal c s ≡ firstFailing ((acceptable (lentTo c) s, Efault) ∷ checks c s)
+unfolding refusal firstFailing
+refusal-list c s = refl
+
 -- where a call is not refused, its state is acceptable and all its tests hold
 pub unrefused : (c : Call) (s : List ℕ) → refusal c s ≡ None → (acceptable (lentTo c) s ≡ true) × Passed (checks c s)
 unrefused c s e = step (acceptable (lentTo c) s) refl

@@ -4,3 +4,4 @@ pub mod Lending
 pub mod Joined
 pub mod Opposite
 pub mod Zones
+pub mod Admitted

@@ -13,6 +13,7 @@ use model::layout::EDGES;
 use model::layout::INITIALISED;
 use model::layout::MOST_VCPUS;
 use model::layout::ROUTES;
+use model::layout::RUNNING;
 use model::layout::STATE_LENGTH;
 use model::layout::VCPUS;
 use words::with_bit;
@@ -22,7 +23,7 @@ ghost use Prim.Native.Nat.{_+_, _-_, _%_, _≤_, _<_};
 ghost use lib.Dec.{eqb};
 ghost use lib.ListN.{length, set};
 ghost use Rattle.model.specs.Words.{withBit, lowest, allBelow, every};
-ghost use Rattle.model.specs.Layout.{stateLength, mostVcpus, word, vcpus, affinity, block, bank};
+ghost use Rattle.model.specs.Layout.{stateLength, mostVcpus, word, vcpus, affinity, running, block, bank};
 ghost use Rattle.model.specs.Interrupts.{idsBelow, isSpi, setFlag};
 ghost use Rattle.model.specs.Sound.{usedBits, freshBits, fits, wordOk, isCount, setup, isAffinity, unused, vcpuOk, sound};
 ghost use Rattle.state.specs.Clear.{Apart, Clear};
@@ -117,6 +118,14 @@ pub fn affinity_of(s: &[u32], v: VcpuIndex) -> Mpidr
     ensures { λ r. ⌜ r .0 ≡ affinity (now (s .entry)) (v .0) ⌝ }
 {
     Mpidr(s[block_at(v) + AFFINITY])
+}
+
+// Whether vCPU `v` runs: 1, or 0.
+pub fn running_of(s: &[u32], v: VcpuIndex) -> u32
+    requires { ⌜ (length (now s) ≡ stateLength) × (v .0 < mostVcpus) ⌝ }
+    ensures { λ r. ⌜ r ≡ running (now (s .entry)) (v .0) ⌝ }
+{
+    s[block_at(v) + RUNNING]
 }
 
 // ---- the parts that are lent on as `&mut`: a vCPU's block, and a bank
@@ -286,7 +295,7 @@ fn words_fit(s: &[u32], initialised: usize, count: usize, n: usize) -> bool
 }
 
 // A word as a number of the machine's width.
-fn wide(x: u32) -> usize
+pub fn wide(x: u32) -> usize
     ensures { λ r. ⌜ r ≡ x ⌝ }
 {
     x as usize
