@@ -1,2 +1,2 @@
 -- What the contracts cite beside the definitions of model.
-pub mod Named
+pub mod Names

@@ -7,18 +7,24 @@ use model::Flags;
 use model::Register;
 use model::RegisterGroup;
 use model::View;
-use model::layout::INITIALISED;
-use model::layout::RUNNING;
-use model::layout::VCPUS;
 use registers::decode::register_at;
 use registers::read_word;
 use registers::write_word;
 use state::Found;
 use state::Mpidr;
-use state::VcpuIndex;
-use state::block_at;
 use state::index_of;
 use state::is_sound;
+use state::is_stopped;
+ghost use mathlib.Core.Path.{_≡_};
+ghost use mathlib.Core.List.{[]};
+ghost use Prim.Native.Nat.{_≤_};
+ghost use lib.ListN.{length};
+ghost use Rattle.model.specs.Layout.{stateLength, mostVcpus, vcpus};
+ghost use Rattle.model.specs.Refusals.{number};
+ghost use Rattle.model.specs.Attributes.{high, low, numberOk, registerTakes};
+ghost use Rattle.model.specs.Calls.{Does, call, getAttribute, setAttribute};
+ghost use Rattle.model.specs.declared.RegisterGroup.the-variants.{Lines};
+ghost use Rattle.attributes.specs.Names.{groupNumber, IsMapped, frameAt, placeOf, alignedAt, wordAt, wordNamed};
 
 // What an attribute names: a word of a register, or why it is refused.
 pub enum Named {
@@ -35,74 +41,100 @@ pub enum Place {
 // ---- the parts of an attribute's number
 
 // Bits 63-32, an affinity.
-fn high(attribute: u64) -> Mpidr {
+fn high_part(attribute: u64) -> Mpidr
+    ensures { λ r. ⌜ r .0 ≡ high attribute ⌝ }
+{
     Mpidr((attribute >> 32) as u32)
 }
 
 // Bits 31-0.
-fn low(attribute: u64) -> u64 {
+fn low_part(attribute: u64) -> u64
+    ensures { λ r. ⌜ r ≡ low attribute ⌝ }
+{
     attribute % 0x1_0000_0000
 }
 
 // Group 7: bits 31-10 are 0 and bits 9-0 a multiple of 32.
-fn number_ok(q: RegisterGroup, attribute: u64) -> bool {
-    if let RegisterGroup::Lines = q {
-        return (low(attribute) / 1024 == 0) & (low(attribute) % 1024 % 32 == 0);
+fn number_ok(q: RegisterGroup, attribute: u64) -> bool
+    ensures { λ r. ⌜ r ≡ numberOk q attribute ⌝ }
+{
+    let number = low_part(attribute);
+    match q {
+        RegisterGroup::Distributor => true,
+        RegisterGroup::Redistributor => true,
+        RegisterGroup::Interface => true,
+        RegisterGroup::Lines => (number / 1024 == 0) & (number % 1024 % 32 == 0),
     }
-    true
 }
 
+// ---- where a register stands
+
 // The frame of the vCPU that has an affinity.
-fn frame_of(s: &[u32], mpidr: Mpidr) -> Place {
+fn frame_at(s: &[u32], mpidr: Mpidr) -> Place
+    requires { ⌜ (length (now s) ≡ stateLength) × (vcpus (now s) ≤ mostVcpus) ⌝ }
+    ensures { λ r. ⌜ r ≡ frameAt (now (s .entry)) (mpidr .0) ⌝ }
+{
     match index_of(s, mpidr) {
         Found::At(v) => Place::In(View::Frame(v.0)),
         Found::Nowhere => Place::NoVcpu,
     }
 }
 
-// Where an attribute's register stands: groups 5, and 7 below ID 32, by the affinity; others in the distributor.
-fn place_of(s: &[u32], q: RegisterGroup, attribute: u64) -> Place {
+// Group 7: the lines of private interrupts stand in a frame, those of SPIs in the distributor.
+fn lines_at(s: &[u32], attribute: u64) -> Place
+    requires { ⌜ (length (now s) ≡ stateLength) × (vcpus (now s) ≤ mostVcpus) ⌝ }
+    ensures { λ r. ⌜ r ≡ placeOf Lines attribute (now (s .entry)) ⌝ }
+{
+    if low_part(attribute) < 32 {
+        return frame_at(s, high_part(attribute));
+    }
+    Place::In(View::Distributor)
+}
+
+// Where an attribute's register stands.
+fn place_of(s: &[u32], q: RegisterGroup, attribute: u64) -> Place
+    requires { ⌜ (length (now s) ≡ stateLength) × (vcpus (now s) ≤ mostVcpus) ⌝ }
+    ensures { λ r. ⌜ r ≡ placeOf q attribute (now (s .entry)) ⌝ }
+{
     match q {
         RegisterGroup::Distributor => Place::In(View::Distributor),
-        RegisterGroup::Lines => {
-            if low(attribute) >= 32 {
-                return Place::In(View::Distributor);
-            }
-            frame_of(s, high(attribute))
-        }
-        _ => frame_of(s, high(attribute)),
+        RegisterGroup::Redistributor => frame_at(s, high_part(attribute)),
+        RegisterGroup::Interface => frame_at(s, high_part(attribute)),
+        RegisterGroup::Lines => lines_at(s, attribute),
     }
 }
 
-// The register that a number names in a view: only the listed aligned words exist.
-fn word_at(q: RegisterGroup, view: View, number: u64) -> Decoded {
-    if let RegisterGroup::Lines = q {
-        return Decoded::Listed(Register::Bits(Flags::Lines), (number / 32) as usize);
+// ---- which word a number names there
+
+// Only the listed aligned words exist.
+fn aligned_at(view: View, number: u64) -> Decoded
+    ensures { λ r. ⌜ r ≡ alignedAt view number ⌝ }
+{
+    if number % 4 == 0 {
+        return register_at(view, number);
     }
-    if number % 4 != 0 {
-        return Decoded::Unlisted;
-    }
-    register_at(view, number)
+    Decoded::Unlisted
 }
 
-// Whether no vCPU runs.
-fn none_runs(s: &[u32], n: usize) -> bool {
-    let mut none = true;
-    let mut v: usize = 0;
-    while v < n {
-        none = (s[block_at(VcpuIndex(v)) + RUNNING] == 0) & none;
-        v += 1;
+// Group 7 has 32 lines a word.
+fn word_at(q: RegisterGroup, view: View, number: u64) -> Decoded
+    ensures { λ r. ⌜ r ≡ wordAt q view number ⌝ }
+{
+    match q {
+        RegisterGroup::Distributor => aligned_at(view, number),
+        RegisterGroup::Redistributor => aligned_at(view, number),
+        RegisterGroup::Interface => aligned_at(view, number),
+        RegisterGroup::Lines => Decoded::Listed(Register::Bits(Flags::Lines), (number / 32) as usize),
     }
-    none
 }
 
-// Whether the device is initialised and no vCPU runs.
-fn is_stopped(s: &[u32]) -> bool {
-    (s[INITIALISED] == 1) & none_runs(s, s[VCPUS] as usize)
-}
+// ---- what an attribute names
 
 // 22 bad number; 22 no such affinity; 16 not initialised or running; 6 unknown register.
-fn named(s: &[u32], q: RegisterGroup, attribute: u64) -> Named {
+fn word_named(s: &[u32], q: RegisterGroup, attribute: u64) -> Named
+    requires { ⌜ IsMapped q ⌝ }
+    ensures { λ r. ⌜ r ≡ wordNamed q attribute (now (s .entry)) ⌝ }
+{
     if !is_sound(s) {
         return Named::Not(Errno::Efault);
     }
@@ -115,50 +147,49 @@ fn named(s: &[u32], q: RegisterGroup, attribute: u64) -> Named {
     if !is_stopped(s) {
         return Named::Not(Errno::Ebusy);
     }
-    let Decoded::Listed(register, k) = word_at(q, view, low(attribute)) else {
+    let Decoded::Listed(register, k) = word_at(q, view, low_part(attribute)) else {
         return Named::Not(Errno::Enxio);
     };
     Named::Word(view, register, k)
 }
 
-// Whether a register takes the value: not above 2^32 - 1, and no other IIDR.
-fn takes_value(register: Register, value: u64) -> bool {
-    if let Register::Iidr = register {
-        return value == 0x0100_1000;
+// ---- values
+
+// An IIDR takes its own value only.
+fn register_takes(register: Register, value: u64) -> bool
+    ensures { λ r. ⌜ r ≡ registerTakes register value ⌝ }
+{
+    match register {
+        Register::Iidr => value == 0x0100_1000,
+        _ => true,
     }
-    value < 0x1_0000_0000
 }
+
+// ---- the calls
 
 // Gets an attribute.
-pub fn get(s: &[u32], q: RegisterGroup, attribute: u64) -> Answer {
-    match named(s, q, attribute) {
+pub fn get(s: &[u32], q: RegisterGroup, attribute: u64) -> Answer
+    requires { ⌜ IsMapped q ⌝ }
+    ensures { λ r. ⌜ Does (call (getAttribute (groupNumber q) attribute) (now (s .entry))) (number r) (now (s .entry)) [] ⌝ }
+{
+    match word_named(s, q, attribute) {
         Named::Not(e) => Answer::Refused(e),
-        Named::Word(view, register, k) => Answer::Value(read_word(
-            s,
-            By::Attribute,
-            view,
-            register,
-            k,
-        )),
+        Named::Word(view, register, k) => Answer::Value(read_word(s, By::Attribute, view, register, k)),
     }
 }
 
-// Sets an attribute: 22 a bad value, after what its get would be refused for.
-pub fn set(s: &mut [u32], q: RegisterGroup, attribute: u64, value: u64) -> Answer {
-    match named(s, q, attribute) {
+// Sets an attribute: 22 a bad value, after what a get is refused for.
+pub fn set(s: &mut [u32], q: RegisterGroup, attribute: u64, value: u64) -> Answer
+    requires { ⌜ IsMapped q ⌝ }
+    ensures { λ r. ⌜ Does (call (setAttribute (groupNumber q) attribute value) (now (s .entry))) (number r) (now (s .exit)) [] ⌝ }
+{
+    match word_named(s, q, attribute) {
         Named::Not(e) => Answer::Refused(e),
         Named::Word(view, register, k) => {
-            if !takes_value(register, value) {
+            if (value >= 0x1_0000_0000) | !register_takes(register, value) {
                 return Answer::Refused(Errno::Einval);
             }
-            write_word(
-                s,
-                By::Attribute,
-                view,
-                register,
-                k,
-                (value % 0x1_0000_0000) as u32,
-            );
+            write_word(s, By::Attribute, view, register, k, value as u32);
             Answer::Value(0)
         }
     }

@@ -25,7 +25,7 @@ ghost use lib.ListN.{length, set};
 ghost use Rattle.model.specs.Words.{withBit, lowest, allBelow, every};
 ghost use Rattle.model.specs.Layout.{stateLength, mostVcpus, word, vcpus, affinity, running, block, bank};
 ghost use Rattle.model.specs.Interrupts.{idsBelow, isSpi, setFlag};
-ghost use Rattle.model.specs.Sound.{usedBits, freshBits, fits, wordOk, isCount, setup, isAffinity, unused, vcpuOk, sound};
+ghost use Rattle.model.specs.Sound.{usedBits, freshBits, fits, wordOk, isCount, setup, isAffinity, unused, vcpuOk, sound, stopped};
 ghost use Rattle.state.specs.Clear.{Apart, Clear};
 ghost use Rattle.state.specs.Lookup.{found};
 
@@ -126,6 +126,31 @@ pub fn running_of(s: &[u32], v: VcpuIndex) -> u32
     ensures { λ r. ⌜ r ≡ running (now (s .entry)) (v .0) ⌝ }
 {
     s[block_at(v) + RUNNING]
+}
+
+// ---- a stopped device
+
+// Whether none of `n` vCPUs runs.
+fn none_runs(s: &[u32], n: usize) -> bool
+    requires { ⌜ (length (now s) ≡ stateLength) × (n ≤ mostVcpus) ⌝ }
+    ensures { λ r. ⌜ r ≡ allBelow (λ v. eqb (running (now (s .entry)) v) 0) n ⌝ }
+{
+    let mut none = true;
+    let mut v: usize = 0;
+    while v < n {
+        none = (running_of(s, VcpuIndex(v)) == 0) & none;
+        v += 1;
+    }
+    none
+}
+
+// Whether the device is initialised and no vCPU runs.
+pub fn is_stopped(s: &[u32]) -> bool
+    requires { ⌜ (length (now s) ≡ stateLength) × (vcpus (now s) ≤ mostVcpus) ⌝ }
+    ensures { λ r. ⌜ r ≡ stopped (now (s .entry)) ⌝ }
+{
+    let none = none_runs(s, wide(s[VCPUS]));
+    (s[INITIALISED] == 1) & none
 }
 
 // ---- the parts that are lent on as `&mut`: a vCPU's block, and a bank

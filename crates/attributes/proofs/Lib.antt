@@ -1,0 +1,2 @@
+-- The laws of the attribute calls.
+pub mod Naming

@@ -1,0 +1,8 @@
+-- `attributes::lines_at` meets its contract.
+use Rattle.attributes.proofs.Naming.{lines-private, lines-shared}
+use borrow.Author.Needs.{needs}
+use Rattle.attributes.proofs.lines_at.Statement.{statement}
+use Rattle.attributes.proofs.lines_at.Tie as tie
+
+pub lines-at-spec : {M : Type 1} → statement M
+lines-at-spec = tie.close (tie.spec (λ c κs. search needs) (λ c κs. search needs) (λ c κs. search needs) (λ c. search lines-private) (λ c. search lines-shared))
