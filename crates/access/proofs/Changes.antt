@@ -121,8 +121,13 @@ module _ (s : List ℕ) (at v id : ℕ) (level : Bool) (size : length s ≡ stat
       ≡ setFlag 4 level v id (cond t (setFlag 2 true v id s) s)
   unfolding setFlag stores further
   by-rise true =
-      rw (lent at (at + 16 - at) s ((2, withBit (word part 2) (id % 32) true) ∷ (4, withBit (word part 4) (id % 32) level) ∷ []) (omega arith) (omega arith, (omega arith, tt)),
-      in-part 2 (omega arith), in-part 4 (omega arith), getD-set-other s (bank v (id / 32) + 2) (bank v (id / 32) + 4) (withBit (word s (bank v (id / 32) + 2)) (id % 32) true) 0 (λ e. omega arith), a)
+      rw (
+        lent at (at + 16 - at) s ((2, withBit (word part 2) (id % 32) true) ∷ (4, withBit (word part 4) (id % 32) level) ∷ []) (omega arith) (omega arith, (omega arith, tt)),
+        in-part 2 (omega arith),
+        in-part 4 (omega arith),
+        getD-set-other s (bank v (id / 32) + 2) (bank v (id / 32) + 4) (withBit (word s (bank v (id / 32) + 2)) (id % 32) true) 0 (λ e. omega arith),
+        a,
+      )
   by-rise false =
       rw (lent at (at + 16 - at) s ((4, withBit (word part 4) (id % 32) level) ∷ []) (omega arith) (omega arith, tt), in-part 4 (omega arith), a)
 

@@ -17,7 +17,9 @@ use state::is_sound;
 use state::is_stopped;
 ghost use mathlib.Core.Path.{_≡_};
 ghost use mathlib.Core.List.{[]};
-ghost use Prim.Native.Nat.{_≤_};
+ghost use mathlib.Core.Bool.{_&&_};
+ghost use Prim.Native.Nat.{_^_, _≤_};
+ghost use lib.Dec.{ltb};
 ghost use lib.ListN.{length};
 ghost use Rattle.model.specs.Layout.{stateLength, mostVcpus, vcpus};
 ghost use Rattle.model.specs.Refusals.{number};
@@ -124,7 +126,10 @@ fn word_at(q: RegisterGroup, view: View, number: u64) -> Decoded
         RegisterGroup::Distributor => aligned_at(view, number),
         RegisterGroup::Redistributor => aligned_at(view, number),
         RegisterGroup::Interface => aligned_at(view, number),
-        RegisterGroup::Lines => Decoded::Listed(Register::Bits(Flags::Lines), (number / 32) as usize),
+        RegisterGroup::Lines => Decoded::Listed(
+            Register::Bits(Flags::Lines),
+            (number / 32) as usize,
+        ),
     }
 }
 
@@ -165,6 +170,13 @@ fn register_takes(register: Register, value: u64) -> bool
     }
 }
 
+// Not above 2^32 - 1, and no other IIDR.
+fn takes_value(register: Register, value: u64) -> bool
+    ensures { λ r. ⌜ r ≡ (ltb value (2 ^ 32) && registerTakes register value) ⌝ }
+{
+    (value < 0x1_0000_0000) & register_takes(register, value)
+}
+
 // ---- the calls
 
 // Gets an attribute.
@@ -174,7 +186,13 @@ pub fn get(s: &[u32], q: RegisterGroup, attribute: u64) -> Answer
 {
     match word_named(s, q, attribute) {
         Named::Not(e) => Answer::Refused(e),
-        Named::Word(view, register, k) => Answer::Value(read_word(s, By::Attribute, view, register, k)),
+        Named::Word(view, register, k) => Answer::Value(read_word(
+            s,
+            By::Attribute,
+            view,
+            register,
+            k,
+        )),
     }
 }
 
@@ -186,7 +204,7 @@ pub fn set(s: &mut [u32], q: RegisterGroup, attribute: u64, value: u64) -> Answe
     match word_named(s, q, attribute) {
         Named::Not(e) => Answer::Refused(e),
         Named::Word(view, register, k) => {
-            if (value >= 0x1_0000_0000) | !register_takes(register, value) {
+            if !takes_value(register, value) {
                 return Answer::Refused(Errno::Einval);
             }
             write_word(s, By::Attribute, view, register, k, value as u32);

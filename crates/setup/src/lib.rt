@@ -22,14 +22,17 @@ use state::is_sound;
 use state::is_unused;
 use state::put_in_block;
 ghost use mathlib.Core.Path.{_≡_};
-ghost use mathlib.Core.List.{[]};
+ghost use mathlib.Core.List.{[], _∷_};
 ghost use mathlib.Core.Bool.{cond, not, _&&_, _||_};
 ghost use Prim.Native.Nat.{_<_};
 ghost use lib.Dec.{eqb, ltb};
 ghost use lib.ListN.{length, replicate, set};
 ghost use Rattle.model.specs.Layout.{stateLength, mostVcpus, count, vcpus, isInitialised};
-ghost use Rattle.model.specs.Refusals.{number};
-ghost use Rattle.model.specs.Calls.{Does, call, refusal, make, addVcpu, setRunning, getAttribute, setAttribute, vcpuAdded, initialisedNext};
+ghost use Rattle.model.specs.Sound.{sound};
+ghost use Rattle.model.specs.Refusals.{firstFailing, number};
+ghost use Rattle.model.specs.Calls.{Does, call, checks, setChecks, isVcpu, make, addVcpu, setRunning, getAttribute, setAttribute, vcpuAdded, initialisedNext};
+ghost use Rattle.model.specs.declared.Errno.the-variants.{Efault, Ebusy, Einval};
+ghost use Rattle.model.specs.declared.AttributeGroup.the-variants.{Count, Initialise};
 
 // ---- make a device
 
@@ -81,7 +84,7 @@ fn write_vcpu(s: &mut [u32], mpidr: Mpidr)
 
 // 16 if initialised; 22 bad affinity; 17 in use; 12 a ninth vCPU.
 fn add_refusal(s: &[u32], mpidr: Mpidr) -> Refusal
-    ensures { λ r. ⌜ r ≡ refusal (addVcpu (mpidr .0)) (now (s .entry)) ⌝ }
+    ensures { λ r. ⌜ r ≡ firstFailing ((sound (now (s .entry)), Efault) ∷ checks (addVcpu (mpidr .0)) (now (s .entry))) ⌝ }
 {
     if !is_sound(s) {
         return Refusal::Refuse(Errno::Efault);
@@ -125,8 +128,8 @@ fn count_is_open(s: &[u32]) -> bool
 }
 
 // 22 no count; 16 if set or initialised.
-fn count_refusal(s: &[u32], attribute: u64, value: u64) -> Refusal
-    ensures { λ r. ⌜ r ≡ refusal (setAttribute 3 attribute value) (now (s .entry)) ⌝ }
+fn count_refusal(s: &[u32], value: u64) -> Refusal
+    ensures { λ r. ⌜ r ≡ firstFailing ((sound (now (s .entry)), Efault) ∷ setChecks Count 0 value (now (s .entry))) ⌝ }
 {
     if !is_sound(s) {
         return Refusal::Refuse(Errno::Efault);
@@ -144,7 +147,7 @@ fn count_refusal(s: &[u32], attribute: u64, value: u64) -> Refusal
 pub fn set_count(s: &mut [u32], attribute: u64, value: u64) -> Answer
     ensures { λ r. ⌜ Does (call (setAttribute 3 attribute value) (now (s .entry))) (number r) (now (s .exit)) [] ⌝ }
 {
-    let refusal = count_refusal(s, attribute, value);
+    let refusal = count_refusal(s, value);
     if let Refusal::Refuse(e) = refusal {
         return Answer::Refused(e);
     }
@@ -192,8 +195,8 @@ fn may_initialise(s: &[u32]) -> bool
 }
 
 // 6 if the attribute is not 0; 19 with no vCPU, unless done already.
-fn initialise_refusal(s: &[u32], attribute: u64, value: u64) -> Refusal
-    ensures { λ r. ⌜ r ≡ refusal (setAttribute 4 attribute value) (now (s .entry)) ⌝ }
+fn initialise_refusal(s: &[u32], attribute: u64) -> Refusal
+    ensures { λ r. ⌜ r ≡ firstFailing ((sound (now (s .entry)), Efault) ∷ setChecks Initialise attribute 0 (now (s .entry))) ⌝ }
 {
     if !is_sound(s) {
         return Refusal::Refuse(Errno::Efault);
@@ -211,7 +214,7 @@ fn initialise_refusal(s: &[u32], attribute: u64, value: u64) -> Refusal
 pub fn initialise(s: &mut [u32], attribute: u64, value: u64) -> Answer
     ensures { λ r. ⌜ Does (call (setAttribute 4 attribute value) (now (s .entry))) (number r) (now (s .exit)) [] ⌝ }
 {
-    let refusal = initialise_refusal(s, attribute, value);
+    let refusal = initialise_refusal(s, attribute);
     if let Refusal::Refuse(e) = refusal {
         return Answer::Refused(e);
     }
@@ -232,8 +235,8 @@ pub fn get_initialise(s: &[u32], attribute: u64) -> Answer
 // ---- running flag
 
 // 16 if not initialised; 22 no such index.
-fn running_refusal(s: &[u32], v: VcpuIndex, on: bool) -> Refusal
-    ensures { λ r. ⌜ r ≡ refusal (setRunning (v .0) on) (now (s .entry)) ⌝ }
+fn running_refusal(s: &[u32], v: VcpuIndex) -> Refusal
+    ensures { λ r. ⌜ r ≡ firstFailing ((sound (now (s .entry)), Efault) ∷ (isInitialised (now (s .entry)), Ebusy) ∷ (isVcpu (now (s .entry)) (v .0), Einval) ∷ []) ⌝ }
 {
     if !is_sound(s) {
         return Refusal::Refuse(Errno::Efault);
@@ -252,7 +255,7 @@ fn running_refusal(s: &[u32], v: VcpuIndex, on: bool) -> Refusal
 pub fn set_running(s: &mut [u32], v: VcpuIndex, on: bool) -> Answer
     ensures { λ r. ⌜ Does (call (setRunning (v .0) on) (now (s .entry))) (number r) (now (s .exit)) [] ⌝ }
 {
-    let refusal = running_refusal(s, v, on);
+    let refusal = running_refusal(s, v);
     if let Refusal::Refuse(e) = refusal {
         return Answer::Refused(e);
     }

@@ -29,6 +29,5 @@ returns-6 : tie.Need-returns-6
 unfolding frameChecks
 returns-6 c = search refusing depth 12
 
-
 pub frame-refusal-spec : {M : Type 1} → statement M
 frame-refusal-spec = tie.close (tie.spec (λ c κs. search needs) returns (λ c. search inside) returns-2 (λ c. search inside) (λ c. search inside) returns-3 returns-4 (λ c κs. search inside) returns-5 returns-6)

@@ -16,6 +16,5 @@ returns-3 c = search reads-byte
 returns-4 : tie.Need-returns-4
 returns-4 c = search reads-less
 
-
 pub guest-read-spec : {M : Type 1} → statement M
 guest-read-spec = tie.close (tie.spec (λ c κs. search needs) (λ c. search needs) (λ c. search needs) returns (λ c κs. search listed-word) returns-2 (λ c κs. search needs) (λ c κs. search listed-word) (λ c. search needs) (λ c κs. search needs) returns-3 returns-4)

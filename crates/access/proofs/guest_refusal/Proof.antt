@@ -25,6 +25,5 @@ returns-5 : tie.Need-returns-5
 unfolding guestChecks
 returns-5 c = search refusing depth 12
 
-
 pub guest-refusal-spec : {M : Type 1} → statement M
 guest-refusal-spec = tie.close (tie.spec (λ c κs. search needs) returns (λ c. search inside) returns-2 (λ c. search inside) (λ c. search inside) returns-3 (λ c κs. search inside) returns-4 returns-5)

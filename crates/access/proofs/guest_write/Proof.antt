@@ -17,6 +17,5 @@ returns-3 c = search writes-byte
 returns-4 : tie.Need-returns-4
 returns-4 c = search writes-less
 
-
 pub guest-write-spec : {M : Type 1} → statement M
 guest-write-spec = tie.close (tie.spec (λ c κs. search needs) (λ c. search needs) (λ c. search needs) returns (λ c. search needs) (λ c κs. search listed-word) (λ c. search needs) returns-2 (λ c κs. search needs) (λ c. search needs) (λ c κs. search (byte-word, needs)) (λ c. search needs) returns-3 returns-4)

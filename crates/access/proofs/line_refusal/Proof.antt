@@ -16,6 +16,5 @@ returns-3 c = search refusing depth 12
 returns-4 : tie.Need-returns-4
 returns-4 c = search refusing depth 12
 
-
 pub line-refusal-spec : {M : Type 1} → statement M
 line-refusal-spec = tie.close (tie.spec (λ c κs. search needs) returns (λ c. search inside) returns-2 (λ c κs. search inside) returns-3 returns-4)

@@ -46,6 +46,5 @@ returns-10 c = search reads-typer
 returns-11 : tie.Need-returns-11
 returns-11 c = search reads-affinity
 
-
 pub read-word-spec : {M : Type 1} → statement M
 read-word-spec = tie.close (tie.spec (λ c. search needs) (λ c. search needs) (λ c. search asked) (λ c. search enables-fit) (λ c. search needs) (λ c. search asked) (λ c. search typer-fits) (λ c. search needs) (λ c. search needs) (λ c. search needs) (λ c κs. search needs) (λ c. search needs) (λ c. search asked) (λ c. search needs) (λ c κs. search asked) (λ c. search needs) (λ c κs. search asked) (λ c. search needs) (λ c κs. search asked) (λ c. search needs) (λ c κs. search asked) (λ c. search needs) (λ c κs. search needs) (λ c κs. search asked) (λ c. search needs) (λ c κs. search needs) (λ c κs. search asked) returns returns-2 returns-3 returns-4 returns-5 returns-6 returns-7 returns-8 returns-9 returns-10 returns-11)

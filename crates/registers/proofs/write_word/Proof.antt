@@ -48,6 +48,5 @@ returns-11 : tie.Need-returns-11
 unfolding write
 returns-11 c = search writes-as
 
-
 pub write-word-spec : {M : Type 1} → statement M
 write-word-spec = tie.close (tie.spec (λ c. search needs) (λ c. search asked) (λ c. search needs) (λ c κs. search asked) (λ c. search needs) (λ c κs. search asked) (λ c. search needs) (λ c κs. search asked) (λ c. search needs) (λ c κs. search asked) (λ c. search needs) (λ c κs. search asked) (λ c. search needs) (λ c. search needs) (λ c. search needs) (λ c. search needs) (λ c. search needs) (λ c. search needs) returns (λ c. search needs) returns-2 (λ c. search needs) returns-3 (λ c. search needs) returns-4 (λ c. search needs) returns-5 (λ c. search needs) returns-6 returns-7 returns-8 returns-9 returns-10 returns-11)

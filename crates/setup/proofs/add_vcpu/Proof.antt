@@ -1,20 +1,20 @@
 -- `setup::add_vcpu` meets its contract.
-use Rattle.model.specs.Calls.{lentTo, lentBytes, filled, value, next}
-use Rattle.setup.proofs.Admitted.{answering, admitted-size, add-room}
+use Rattle.model.specs.Calls.{lentTo, lentBytes, checks, filled, value, next}
+use Rattle.state.proofs.Admitted.{answering, admitted-size}
+use Rattle.setup.proofs.Admitted.{add-room}
 use borrow.Author.Needs.{needs}
 use Rattle.setup.proofs.add_vcpu.Statement.{statement}
 use Rattle.setup.proofs.add_vcpu.Tie as tie
 
 returns : tie.Need-returns
-unfolding lentTo lentBytes
+unfolding lentTo lentBytes checks
 returns c = search answering
 
 write-vcpu-requires : tie.Need-write-vcpu-requires
-unfolding lentTo
 write-vcpu-requires c κs = (search admitted-size, search add-room)
 
 pub add-vcpu-spec : {M : Type 1} → statement M
 add-vcpu-spec =
     tie.close
     (tie.spec (λ c κs. search needs) (λ c. search needs) (λ c. search needs) returns (λ c. search needs)
-    write-vcpu-requires (λ c. search needs) (λ c. unfold lentTo filled value next in (search answering)))
+    write-vcpu-requires (λ c. search needs) (λ c. unfold lentTo checks filled value next in (search answering)))
