@@ -10,11 +10,13 @@ use Rattle.model.specs.declared.By.the-variants.{Guest, Attribute}
 use Rattle.model.specs.declared.Flags.{Flags}
 use Rattle.model.proofs.Bits.{gather-bits, gather-same}
 use Rattle.words.proofs.Expressions.{Word}
+use Rattle.registers.specs.Words.{theirs}
 
--- what guest and attribute have alike, of a register that is known to be k
-pub alike : {A : Type 0} (g : By → Flags → A) (by : By) (f k : Flags) {x : A} → f ≡ k → x ≡ g Guest k → x ≡ g Attribute k → x ≡ g by f
-alike g Guest f k e p q = rw e p
-alike g Attribute f k e p q = rw e q
+-- a row of a table: the guest's and the attribute's, of a register that is known to be k
+pub row-is : {A : Type 0} (g : By → Flags → A) (by : By) (f k : Flags) {x y z : A} → f ≡ k → y ≡ g Guest k → z ≡ g Attribute k → x ≡ theirs by y z → x ≡ g by f
+unfolding theirs
+row-is g Guest f k e p q h = rw e (h ∙ p)
+row-is g Attribute f k e p q h = rw e (h ∙ q)
 
 -- the n low bits of a word that is known bit by bit
 pub low-bits : (n : ℕ) {w : ℕ} {f : ℕ → Bool} → n ≤ 32 → Word w f → w % 2 ^ n ≡ gather n f

@@ -6,6 +6,8 @@ use lib.Dec.{eqb, leb}
 use Rattle.model.specs.Words.{bit, gather}
 use Rattle.model.specs.Layout.{word}
 use Rattle.model.specs.Registers.{has}
+use Rattle.model.specs.declared.By.{By}
+use Rattle.model.specs.declared.By.the-variants.{Guest, Attribute}
 use Rattle.model.specs.declared.View.{View}
 use Rattle.model.specs.declared.Shown.{Shown}
 use Rattle.model.specs.declared.Shown.the-variants.{Nothing, Flag, Pending}
@@ -26,6 +28,11 @@ prioritiesMeant s x k = gather 32 (λ i. has s x (4 * k + i / 8))
 -- sixteen edge flags
 unfoldable pub edgesMeant : List ℕ → View → ℕ → ℕ
 edgesMeant s x k = gather 16 (λ i. has s x (16 * k + i))
+
+-- ---- the guest's, or the attribute's
+unfoldable pub theirs : {A : Type 0} → By → A → A → A
+theirs Guest g a = g
+theirs Attribute g a = a
 
 -- ---- words of the bank b
 

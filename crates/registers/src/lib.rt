@@ -42,7 +42,7 @@ ghost use Rattle.model.specs.Layout.{stateLength, mostVcpus, word, count, bank}
 ghost use Rattle.model.specs.Sound.{sound};
 ghost use Rattle.model.specs.Registers.{banks, wordsOf, flags, shownTo, ruleFor, has, seenBy, readFlags, readPriority, readConfig, readRoute, statusAt, frameTyper, read, writeFlags, writePriority, writeConfig, writeRoute, writtenStatus, write};
 ghost use Rattle.words.specs.Words.{under, priorityUnder};
-ghost use Rattle.registers.specs.Words.{flagsMeant, prioritiesMeant, edgesMeant, shownIn, edgesUnder, means, Byte};
+ghost use Rattle.registers.specs.Words.{flagsMeant, prioritiesMeant, edgesMeant, theirs, shownIn, edgesUnder, means, Byte};
 
 // The bytes of a word that an access means.
 pub enum Bytes {
@@ -139,53 +139,54 @@ fn least_of(f: Flags) -> usize
     }
 }
 
-// What a register shows of it.
+// The guest's, or the attribute's.
+fn shows(by: By, guest: Shown, attribute: Shown) -> Shown
+    ensures { λ r. ⌜ r ≡ theirs by guest attribute ⌝ }
+{
+    match by {
+        By::Guest => guest,
+        By::Attribute => attribute,
+    }
+}
+
+fn writes(by: By, guest: Rule, attribute: Rule) -> Rule
+    ensures { λ r. ⌜ r ≡ theirs by guest attribute ⌝ }
+{
+    match by {
+        By::Guest => guest,
+        By::Attribute => attribute,
+    }
+}
+
+// What a register shows of it, to a guest and by attribute.
 fn shown_to(by: By, f: Flags) -> Shown
     ensures { λ r. ⌜ r ≡ shownTo by (flags f) ⌝ }
 {
     match f {
-        Flags::Group => Shown::Flag,
-        Flags::SetEnable => Shown::Flag,
-        Flags::ClearEnable => Shown::Flag,
-        Flags::SetPending => match by {
-            By::Guest => Shown::Pending,
-            By::Attribute => Shown::Flag,
-        },
-        Flags::ClearPending => match by {
-            By::Guest => Shown::Pending,
-            By::Attribute => Shown::Nothing,
-        },
-        Flags::SetActive => Shown::Flag,
-        Flags::ClearActive => Shown::Flag,
-        Flags::Lines => match by {
-            By::Guest => Shown::Nothing,
-            By::Attribute => Shown::Flag,
-        },
+        Flags::Group => shows(by, Shown::Flag, Shown::Flag),
+        Flags::SetEnable => shows(by, Shown::Flag, Shown::Flag),
+        Flags::ClearEnable => shows(by, Shown::Flag, Shown::Flag),
+        Flags::SetPending => shows(by, Shown::Pending, Shown::Flag),
+        Flags::ClearPending => shows(by, Shown::Pending, Shown::Nothing),
+        Flags::SetActive => shows(by, Shown::Flag, Shown::Flag),
+        Flags::ClearActive => shows(by, Shown::Flag, Shown::Flag),
+        Flags::Lines => shows(by, Shown::Nothing, Shown::Flag),
     }
 }
 
-// What a bit written to a register does to it.
+// What a bit written to a register does to it, by a guest and by attribute.
 fn rule_for(by: By, f: Flags) -> Rule
     ensures { λ r. ⌜ r ≡ ruleFor by (flags f) ⌝ }
 {
     match f {
-        Flags::Group => Rule::Replaces,
-        Flags::SetEnable => Rule::Sets,
-        Flags::ClearEnable => Rule::Clears,
-        Flags::SetPending => match by {
-            By::Guest => Rule::Sets,
-            By::Attribute => Rule::Replaces,
-        },
-        Flags::ClearPending => match by {
-            By::Guest => Rule::Clears,
-            By::Attribute => Rule::Ignores,
-        },
-        Flags::SetActive => Rule::Sets,
-        Flags::ClearActive => Rule::Clears,
-        Flags::Lines => match by {
-            By::Guest => Rule::Ignores,
-            By::Attribute => Rule::Replaces,
-        },
+        Flags::Group => writes(by, Rule::Replaces, Rule::Replaces),
+        Flags::SetEnable => writes(by, Rule::Sets, Rule::Sets),
+        Flags::ClearEnable => writes(by, Rule::Clears, Rule::Clears),
+        Flags::SetPending => writes(by, Rule::Sets, Rule::Replaces),
+        Flags::ClearPending => writes(by, Rule::Clears, Rule::Ignores),
+        Flags::SetActive => writes(by, Rule::Sets, Rule::Sets),
+        Flags::ClearActive => writes(by, Rule::Clears, Rule::Clears),
+        Flags::Lines => writes(by, Rule::Ignores, Rule::Replaces),
     }
 }
 
