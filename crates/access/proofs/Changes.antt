@@ -12,7 +12,7 @@ use borrow.Rule.Slice.PartMut.{midOf, putMid}
 use lib.Dec.{leb, ltb}
 use lib.ListN.{length, set}
 use lib.Seq.{getD-set-other}
-use Rattle.model.specs.Words.{bit, withBit}
+use Rattle.model.specs.Words.{withBit}
 use Rattle.model.specs.Layout.{stateLength, mostVcpus, word, isInitialised, count, vcpus, bank}
 use Rattle.model.specs.Interrupts.{isPrivate, isPpi, isSpi, setFlag}
 use Rattle.model.specs.Sound.{sound}

@@ -1,2 +1,3 @@
 -- The laws of the attribute calls.
+pub mod Placing
 pub mod Naming

@@ -1,6 +1,6 @@
 -- What an attribute of the groups 1, 5 and 7 names: a word of a memory-mapped register, or the refusal. The definitions follow model's `item`.
 use Prim.Native.Nat.{ℕ, _/_, _%_}
-use mathlib.Core.Bool.{Bool, cond}
+use mathlib.Core.Bool.{cond}
 use mathlib.Core.List.{List}
 use lib.Dec.{eqb, ltb}
 use Rattle.model.specs.Registers.{decode, rows}

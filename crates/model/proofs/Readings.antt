@@ -1,5 +1,5 @@
 -- What each register reads by attribute, as the one word of the state that it shows: in a sound, initialised device.
-use Prim.Native.Nat.{ℕ, zero, suc, _+_, _*_, _-_, _/_, _%_, _^_, _≤_, _<_, min}
+use Prim.Native.Nat.{ℕ, _+_, _*_, _-_, _/_, _%_, _^_, _≤_, _<_, min}
 use mathlib.Core.Path.{_≡_, refl, ap, _∙_}
 use mathlib.Core.Bool.{Bool, true, false, not, _&&_}
 use mathlib.Core.List.{List}
@@ -16,7 +16,7 @@ use Rattle.model.specs.Registers.{has, seenBy, shows, readFlags, readPri
 use Rattle.model.specs.declared.View.{View}
 use Rattle.model.specs.declared.View.the-variants.{Distributor, Frame}
 use Rattle.model.specs.declared.Shown.the-variants.{Flag}
-use Rattle.model.proofs.Bits.{gather-same, bit-mod, bit-shift, bit-below, gather-passed}
+use Rattle.model.proofs.Bits.{gather-same, bit-below, gather-passed}
 use Rattle.model.proofs.Tests.{and-true, and-implied, not-both, below-at}
 use Rattle.model.proofs.Within.{bit-none, fits-bit}
 use Rattle.model.proofs.Soundness.{Ready}

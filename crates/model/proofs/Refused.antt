@@ -40,19 +40,10 @@ pub data Fails : List Check → Errno → Type 0 where
   fails : {b : Bool} {e : Errno} {cs : List Check} → b ≡ false → Fails ((b, e) ∷ cs) e
   holds : {b : Bool} {e n : Errno} {cs : List Check} → b ≡ true → Fails cs n → Fails ((b, e) ∷ cs) n
 
-pub data Holds : List Check → Type 0 where
-  end : Holds []
-  also : {b : Bool} {e : Errno} {cs : List Check} → b ≡ true → Holds cs → Holds ((b, e) ∷ cs)
-
 pub fails-first : {cs : List Check} {n : Errno} → Fails cs n → firstFailing cs ≡ Refuse n
 unfolding firstFailing
 fails-first (fails e) = rw (e, firstFailing)
 fails-first (holds e h) = rw (e, firstFailing) (fails-first h)
-
-pub holds-first : {cs : List Check} → Holds cs → firstFailing cs ≡ None
-unfolding firstFailing
-holds-first end = refl
-holds-first (also e h) = rw (e, firstFailing) (holds-first h)
 
 -- ---- EFAULT first, then the call's own tests in their order
 
@@ -181,8 +172,8 @@ fault-is c s e = sym (fault-first c s e)
 pub refuse-is : (c : Call) (s : List ℕ) (e : Errno) → acceptable (lentTo c) s ≡ true → Fails (checks c s) e → Refuse e ≡ refusal c s
 refuse-is c s e a h = sym (tests-next c s a ∙ fails-first h)
 
-pub none-is : (c : Call) (s : List ℕ) → acceptable (lentTo c) s ≡ true → Holds (checks c s) → None ≡ refusal c s
-none-is c s a h = sym (tests-next c s a ∙ holds-first h)
+pub none-is : (c : Call) (s : List ℕ) → acceptable (lentTo c) s ≡ true → Passed (checks c s) → None ≡ refusal c s
+none-is c s a h = sym (tests-next c s a ∙ none-of (checks c s) h)
 
 pub refuses : (c : Call) (s b : List ℕ) (e : Errno) → Refuse e ≡ refusal c s → b ≡ lentBytes (lentTo c) → Does (call c s) (number (Refused e)) s b
 unfolding number
@@ -200,4 +191,4 @@ pub told-yes : (b r : Bool) → r ≡ b → not r ≡ false → b ≡ true
 told-yes b r e h = sym e ∙ not-false r h
 
 -- what a branch of the code has tested, as the value of a check: `search tests` finds the branches' facts
-pub ruleset tests = (fails, holds, end, also, told-no, told-yes, eq-eqb, ne-eqb, lt-ltb, le-ltb, le-leb, lt-leb)
+pub ruleset tests = (fails, holds, told-no, told-yes, eq-eqb, ne-eqb, lt-ltb, le-ltb, le-leb, lt-leb)

@@ -1,5 +1,5 @@
 -- A register's word read from the words of its bank, and written to them, as the definitions say it interrupt by interrupt.
-use Prim.Native.Nat.{ℕ, _+_, _*_, _-_, _/_, _%_, _^_, _≤_, _<_}
+use Prim.Native.Nat.{ℕ, _+_, _*_, _-_, _/_, _%_, _≤_, _<_}
 use mathlib.Core.Path.{_≡_, refl, sym, ap, _∙_}
 use mathlib.Core.Bool.{Bool, true, false, cond, _&&_}
 use mathlib.Core.List.{List}
@@ -12,7 +12,7 @@ use lib.ListN.{length, set}
 use Rattle.model.specs.Words.{bit, gather, spread}
 use Rattle.model.specs.Layout.{stateLength, mostVcpus, word, bank}
 use Rattle.model.specs.Interrupts.{flag, edge, priority}
-use Rattle.model.specs.Registers.{banks, flags, shownTo, ruleFor, shows, flagAfter, has, seenBy, readFlags, readPriority, readConfig, writeFlags, writePriority, writeConfig}
+use Rattle.model.specs.Registers.{banks, flags, shownTo, ruleFor, shows, has, seenBy, readFlags, readPriority, readConfig, writeFlags, writePriority, writeConfig}
 use Rattle.model.specs.declared.By.{By}
 use Rattle.model.specs.declared.View.{View}
 use Rattle.model.specs.declared.Flags.{Flags}

@@ -3,14 +3,13 @@ use Prim.Native.Nat.{ℕ, _+_, _*_, _/_, _%_, _^_, _≤_, _<_, min}
 use mathlib.Core.Path.{_≡_, refl, ap, _∙_}
 use mathlib.Core.Bool.{Bool, true, false, not, _&&_}
 use mathlib.Core.List.{List}
-use native.Mathlib.Decide.{decLt}
 use native.Mathlib.Omega.{arith}
-use borrow.Author.Tests.{lt-ltb, le-ltb, ltb-true, leb-true, le-leb, lt-leb}
+use borrow.Author.Tests.{lt-ltb, ltb-true, leb-true, le-leb}
 use lib.Dec.{leb, ltb}
 use lib.Bits.{bitAnd}
 use mir.Syntax.{w64}
 use mir.Val.{Fits}
-use Rattle.model.specs.Words.{bit, gather, allBelow}
+use Rattle.model.specs.Words.{bit, gather}
 use Rattle.model.specs.Layout.{count}
 use Rattle.model.specs.Interrupts.{isPrivate, isSpi}
 use Rattle.model.specs.Registers.{banks, has}
@@ -18,8 +17,7 @@ use Rattle.model.specs.declared.View.{View}
 use Rattle.model.specs.declared.View.the-variants.{Distributor, Frame}
 use Rattle.model.proofs.Bits.{gather-same, gather-lt, bit-gather, bit-mod, bit-shift, word-is}
 use Rattle.model.proofs.Refused.{told-no, told-yes}
-use Rattle.model.proofs.Tests.{both, and-true, same-test, below-at}
-use Rattle.words.proofs.Operators.{bit-and}
+use Rattle.model.proofs.Tests.{both, and-true, same-test}
 use Rattle.words.proofs.Expressions.{gathers, gathered, same-bits, ands, ones-from}
 use Rattle.registers.specs.Words.{flagsMeant, prioritiesMeant, edgesMeant}
 

@@ -18,7 +18,7 @@ use Rattle.model.specs.declared.Errno.the-variants.{Efault}
 use Rattle.model.specs.declared.Refusal.{Refusal}
 use Rattle.model.specs.declared.Refusal.the-variants.{None, Refuse}
 use Rattle.model.proofs.Soundness.{sound-length, sound-vcpus}
-use Rattle.model.proofs.Refused.{Passed, passed, Fails, Holds, fails-first, holds-first, refusal-list, told-yes, refuses, grants, tests}
+use Rattle.model.proofs.Refused.{Passed, passed, none-of, Fails, fails-first, refusal-list, told-yes, refuses, grants, tests}
 
 -- ---- after the test for soundness
 
@@ -58,8 +58,8 @@ gave-ne a b r e n = ne-eqb a b (λ h. n (e ∙ h))
 pub refuse-first : {cs : List Check} {e : Errno} → Fails cs e → Refuse e ≡ firstFailing cs
 refuse-first h = sym (fails-first h)
 
-pub none-first : {cs : List Check} → Holds cs → None ≡ firstFailing cs
-none-first h = sym (holds-first h)
+pub none-first : (cs : List Check) → Passed cs → None ≡ firstFailing cs
+none-first cs h = sym (none-of cs h)
 
 -- ---- a call by the answer of its refusal's function
 

@@ -1,5 +1,4 @@
 -- `access::guest_write` meets its contract.
-use native.Mathlib.Omega.{arith}
 use Rattle.access.proofs.Accesses.{listed-word, byte-word, writes-unlisted, writes-whole, writes-byte, writes-less}
 use borrow.Author.Needs.{needs}
 use Rattle.access.proofs.guest_write.Statement.{statement}

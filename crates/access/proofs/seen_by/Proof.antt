@@ -1,6 +1,5 @@
 -- `access::seen_by` meets its contract.
 use Rattle.access.proofs.Changes.{own-seen, any-seen}
-use borrow.Author.Needs.{needs}
 use Rattle.access.proofs.seen_by.Statement.{statement}
 use Rattle.access.proofs.seen_by.Tie as tie
 

@@ -1,5 +1,5 @@
 -- `attributes::aligned_at` meets its contract.
-use Rattle.attributes.proofs.Naming.{aligned, unaligned}
+use Rattle.attributes.proofs.Placing.{aligned, unaligned}
 use borrow.Author.Needs.{needs}
 use Rattle.attributes.proofs.aligned_at.Statement.{statement}
 use Rattle.attributes.proofs.aligned_at.Tie as tie

@@ -1,5 +1,5 @@
 -- `attributes::frame_at` meets its contract.
-use Rattle.attributes.proofs.Naming.{frame-found, frame-missing}
+use Rattle.attributes.proofs.Placing.{frame-found, frame-missing}
 use borrow.Author.Needs.{needs}
 use Rattle.attributes.proofs.frame_at.Statement.{statement}
 use Rattle.attributes.proofs.frame_at.Tie as tie

@@ -1,5 +1,5 @@
 -- `attributes::lines_at` meets its contract.
-use Rattle.attributes.proofs.Naming.{lines-private, lines-shared}
+use Rattle.attributes.proofs.Placing.{lines-private, lines-shared}
 use borrow.Author.Needs.{needs}
 use Rattle.attributes.proofs.lines_at.Statement.{statement}
 use Rattle.attributes.proofs.lines_at.Tie as tie

@@ -1,6 +1,6 @@
 -- `attributes::register_takes` meets its contract.
 use Rattle.model.specs.Attributes.{registerTakes}
-use Rattle.attributes.proofs.Naming.{takes-any}
+use Rattle.attributes.proofs.Placing.{takes-any}
 use borrow.Author.Needs.{needs}
 use Rattle.attributes.proofs.register_takes.Statement.{statement}
 use Rattle.attributes.proofs.register_takes.Tie as tie

@@ -5,7 +5,7 @@ use mathlib.Core.List.{List}
 use Prim.Native.Nat.{ℕ}
 use lib.ListN.{length, replicate}
 use Rattle.model.specs.Calls.{lentTo, acceptable, checks, value, next, made, lentBytes, filled}
-use Rattle.model.proofs.Refused.{refuses, fault-is, none-is, grants, end}
+use Rattle.model.proofs.Refused.{refuses, fault-is, none-is, grants}
 use borrow.Author.Needs.{needs}
 use Rattle.setup.proofs.make_device.Statement.{statement}
 use Rattle.setup.proofs.make_device.Tie as tie
@@ -16,4 +16,4 @@ all-zero s t l e = e ∙ ap (λ (n : ℕ). replicate n 0) l
 
 pub make-device-spec : {M : Type 1} → statement M
 make-device-spec = tie.close (tie.spec (λ c. unfold lentTo acceptable lentBytes in (search (refuses, fault-is, ne-eqb))) (λ c κs. search needs) (λ c. search needs)
-    (λ c. unfold lentTo acceptable checks value next made filled in (search (grants, none-is, eq-eqb, end, all-zero))))
+    (λ c. unfold lentTo acceptable checks value next made filled in (search (grants, none-is, eq-eqb, all-zero))))
