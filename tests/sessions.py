@@ -231,20 +231,26 @@ def call_numbers(text):
     return numbers
 
 
-def play(options):
-    """The rows of the session, cut into chunks."""
+def load(oracle):
+    """gen.py and xdrill.py of a folder."""
     sys.dont_write_bytecode = True
-    sys.path.insert(0, options.oracle)
+    sys.path.insert(0, oracle)
     import gen
     import xdrill
-    if options.counts:
-        gen.COUNTS = list(options.counts)
-    # gen.py has accesses of any size in the distributor only: here also in frames
+    # xdrill has accesses of any size in the distributor only: here also in frames
     u64 = xdrill.U64
     xdrill.EXTRA[b"rrw"] = ((u64,) * 4, True,
                             lambda d, v, f, o, s: d.guest_mmio_read(v, f, o, s))
     xdrill.EXTRA[b"wrw"] = ((u64,) * 5, False, lambda d, v, f, o, s, x:
                             d.guest_mmio_write(v, f, o, s, x))
+    return gen, xdrill
+
+
+def play(options):
+    """The rows of the session, cut into chunks."""
+    gen, xdrill = load(options.oracle)
+    if options.counts:
+        gen.COUNTS = list(options.counts)
     drill = xdrill.Drill()
     chunks, chunk, weight, made = [], [], 0, 0
     wanted = call_numbers(options.calls)

@@ -1,0 +1,177 @@
+// The public calls for C: numbers and slices only. Each hands on to the call of vgic that has its name, with the same promise.
+use state::Mpidr;
+use state::VcpuIndex;
+ghost use mathlib.Core.Path.{_≡_};
+ghost use mathlib.Core.List.{[]};
+ghost use Rattle.model.specs.Calls.{Does, call, make, addVcpu, setRunning, changeLine, readDistributor, writeDistributor, readFrame, writeFrame, getAttribute, setAttribute};
+
+// ---- the calls that set a device up
+
+// Makes a device of any words of the right length.
+#[no_mangle]
+pub extern "C" fn vgic_make(state: &mut [u32]) -> i64
+    ensures { λ r. ⌜ Does (call make (now (state .entry))) r (now (state .exit)) [] ⌝ }
+{
+    vgic::make(state)
+}
+
+// Adds a vCPU with an affinity of its own.
+#[no_mangle]
+pub extern "C" fn vgic_add_vcpu(state: &mut [u32], mpidr: u32) -> i64
+    ensures { λ r. ⌜ Does (call (addVcpu mpidr) (now (state .entry))) r (now (state .exit)) [] ⌝ }
+{
+    vgic::add_vcpu(state, Mpidr(mpidr))
+}
+
+// Marks a vCPU as running, or as stopped.
+#[no_mangle]
+pub extern "C" fn vgic_set_running(state: &mut [u32], v: usize, on: bool) -> i64
+    ensures { λ r. ⌜ Does (call (setRunning v on) (now (state .entry))) r (now (state .exit)) [] ⌝ }
+{
+    vgic::set_running(state, VcpuIndex(v), on)
+}
+
+// Attribute group 3: sets the interrupt count.
+#[no_mangle]
+pub extern "C" fn vgic_set_count(state: &mut [u32], attribute: u64, value: u64) -> i64
+    ensures { λ r. ⌜ Does (call (setAttribute 3 attribute value) (now (state .entry))) r (now (state .exit)) [] ⌝ }
+{
+    vgic::set_count(state, attribute, value)
+}
+
+// Attribute group 3: gives the interrupt count.
+#[no_mangle]
+pub extern "C" fn vgic_get_count(state: &[u32], attribute: u64) -> i64
+    ensures { λ r. ⌜ Does (call (getAttribute 3 attribute) (now (state .entry))) r (now (state .entry)) [] ⌝ }
+{
+    vgic::get_count(state, attribute)
+}
+
+// Attribute group 4: initialises the device.
+#[no_mangle]
+pub extern "C" fn vgic_initialise(state: &mut [u32], attribute: u64, value: u64) -> i64
+    ensures { λ r. ⌜ Does (call (setAttribute 4 attribute value) (now (state .entry))) r (now (state .exit)) [] ⌝ }
+{
+    vgic::initialise(state, attribute, value)
+}
+
+// Attribute group 4 has no get: refused.
+#[no_mangle]
+pub extern "C" fn vgic_get_initialise(state: &[u32], attribute: u64) -> i64
+    ensures { λ r. ⌜ Does (call (getAttribute 4 attribute) (now (state .entry))) r (now (state .entry)) [] ⌝ }
+{
+    vgic::get_initialise(state, attribute)
+}
+
+// ---- the guest's accesses to memory-mapped registers, by the vCPU `v`
+
+// Reads `size` bytes of the distributor.
+#[no_mangle]
+pub extern "C" fn vgic_read_distributor(state: &[u32], v: usize, offset: u64, size: u64) -> i64
+    ensures { λ r. ⌜ Does (call (readDistributor v offset size) (now (state .entry))) r (now (state .entry)) [] ⌝ }
+{
+    vgic::read_distributor(state, VcpuIndex(v), offset, size)
+}
+
+// Writes `size` bytes of the distributor.
+#[no_mangle]
+pub extern "C" fn vgic_write_distributor(
+    state: &mut [u32],
+    v: usize,
+    offset: u64,
+    size: u64,
+    value: u64,
+) -> i64
+    ensures { λ r. ⌜ Does (call (writeDistributor v offset size value) (now (state .entry))) r (now (state .exit)) [] ⌝ }
+{
+    vgic::write_distributor(state, VcpuIndex(v), offset, size, value)
+}
+
+// Reads `size` bytes of the redistributor frame of a vCPU.
+#[no_mangle]
+pub extern "C" fn vgic_read_frame(
+    state: &[u32],
+    v: usize,
+    frame: usize,
+    offset: u64,
+    size: u64,
+) -> i64
+    ensures { λ r. ⌜ Does (call (readFrame v frame offset size) (now (state .entry))) r (now (state .entry)) [] ⌝ }
+{
+    vgic::read_frame(state, VcpuIndex(v), VcpuIndex(frame), offset, size)
+}
+
+// Writes `size` bytes of the redistributor frame of a vCPU.
+#[no_mangle]
+pub extern "C" fn vgic_write_frame(
+    state: &mut [u32],
+    v: usize,
+    frame: usize,
+    offset: u64,
+    size: u64,
+    value: u64,
+) -> i64
+    ensures { λ r. ⌜ Does (call (writeFrame v frame offset size value) (now (state .entry))) r (now (state .exit)) [] ⌝ }
+{
+    vgic::write_frame(state, VcpuIndex(v), VcpuIndex(frame), offset, size, value)
+}
+
+// ---- lines
+
+// Changes the line of a PPI of a vCPU, or of an SPI.
+#[no_mangle]
+pub extern "C" fn vgic_change_line(state: &mut [u32], v: usize, id: usize, level: bool) -> i64
+    ensures { λ r. ⌜ Does (call (changeLine v id level) (now (state .entry))) r (now (state .exit)) [] ⌝ }
+{
+    vgic::change_line(state, VcpuIndex(v), id, level)
+}
+
+// ---- attributes of the memory-mapped registers, and lines
+
+// Attribute group 1: gets a word of the distributor.
+#[no_mangle]
+pub extern "C" fn vgic_get_distributor(state: &[u32], attribute: u64) -> i64
+    ensures { λ r. ⌜ Does (call (getAttribute 1 attribute) (now (state .entry))) r (now (state .entry)) [] ⌝ }
+{
+    vgic::get_distributor(state, attribute)
+}
+
+// Attribute group 1: sets a word of the distributor.
+#[no_mangle]
+pub extern "C" fn vgic_set_distributor(state: &mut [u32], attribute: u64, value: u64) -> i64
+    ensures { λ r. ⌜ Does (call (setAttribute 1 attribute value) (now (state .entry))) r (now (state .exit)) [] ⌝ }
+{
+    vgic::set_distributor(state, attribute, value)
+}
+
+// Attribute group 5: gets a word of a redistributor frame.
+#[no_mangle]
+pub extern "C" fn vgic_get_redistributor(state: &[u32], attribute: u64) -> i64
+    ensures { λ r. ⌜ Does (call (getAttribute 5 attribute) (now (state .entry))) r (now (state .entry)) [] ⌝ }
+{
+    vgic::get_redistributor(state, attribute)
+}
+
+// Attribute group 5: sets a word of a redistributor frame.
+#[no_mangle]
+pub extern "C" fn vgic_set_redistributor(state: &mut [u32], attribute: u64, value: u64) -> i64
+    ensures { λ r. ⌜ Does (call (setAttribute 5 attribute value) (now (state .entry))) r (now (state .exit)) [] ⌝ }
+{
+    vgic::set_redistributor(state, attribute, value)
+}
+
+// Attribute group 7: gets the lines of 32 interrupts.
+#[no_mangle]
+pub extern "C" fn vgic_get_lines(state: &[u32], attribute: u64) -> i64
+    ensures { λ r. ⌜ Does (call (getAttribute 7 attribute) (now (state .entry))) r (now (state .entry)) [] ⌝ }
+{
+    vgic::get_lines(state, attribute)
+}
+
+// Attribute group 7: sets the lines of 32 interrupts, latching nothing.
+#[no_mangle]
+pub extern "C" fn vgic_set_lines(state: &mut [u32], attribute: u64, value: u64) -> i64
+    ensures { λ r. ⌜ Does (call (setAttribute 7 attribute value) (now (state .entry))) r (now (state .exit)) [] ⌝ }
+{
+    vgic::set_lines(state, attribute, value)
+}

@@ -1,0 +1,378 @@
+#!/usr/bin/env python3
+"""The compiled public calls against a model of the device in Python.
+
+    compare.py [SEED] [LINES]
+
+Builds the crate `abi` (rt staticlib) and tests/driver.c, which makes the calls
+of libabi.a.  The driver and xdrill.py get the same lines: some that visit every
+offset, then at least LINES random calls (100000), from gen.py's sessions SEED
+(1), SEED + 1 and so on, with accesses and unsound states of this script's own
+between them.  Each answer is compared, and often all words of the state.  The
+driver itself sees to it that a refused call and a read change no word.
+
+Prints how many calls of each kind were compared and how many were refused.
+Ends with status 1 at the first difference, and shows the line; with status 2 if
+something is missing or cannot be built.
+
+    ORACLE   the folder of gen.py and xdrill.py (../shared/oracle, from the repository)
+    LIBRARY  a libabi.a to compare in place of the one that rt builds
+"""
+
+import collections
+import os
+import random
+import subprocess
+import sys
+
+import sessions
+
+ROOT = os.path.dirname(os.path.dirname(os.path.abspath(__file__)))
+ORACLE = os.environ.get("ORACLE") or os.path.join(ROOT, "..", "shared", "oracle")
+MADE = os.path.join(ROOT, "target", "compare")
+if not os.path.isfile(os.path.join(ORACLE, "xdrill.py")):
+    print("compare.py: no xdrill.py in %s; set ORACLE" % ORACLE)
+    sys.exit(2)
+gen, xdrill = sessions.load(ORACLE)
+
+GROUPS = (1, 3, 4, 5, 7)
+U32, U64 = xdrill.U32, xdrill.U64
+# 32 bits are the limit of the program `drill`; the calls take 64
+for name in (b"irqs", b"run", b"line", b"dr", b"dw", b"rr", b"rw"):
+    limits, reads, action = xdrill.PLAIN[name]
+    limits = tuple(U64 if limit == U32 else limit for limit in limits)
+    xdrill.PLAIN[name] = (limits, reads, action)
+
+
+# ---- lines -----------------------------------------------------------------
+
+def call_of(line):
+    """The call of a line and its numbers, or None if the driver has none."""
+    word, *numbers = line.split(b" ")
+    if word not in sessions.NUMBERS or not all(map(xdrill.HEX.fullmatch, numbers)):
+        return None
+    try:
+        call = sessions.NUMBERS[word](*[int(n, 16) for n in numbers])
+    except TypeError:
+        return None
+    if call[0] in ("readSystem", "writeSystem", "querySignal"):
+        return None
+    if call[0] in ("getAttribute", "setAttribute") and call[1] not in GROUPS:
+        return None
+    return call
+
+
+def kind_of(call):
+    if call[0] in ("getAttribute", "setAttribute"):
+        return "%s, group %d" % call[:2]
+    return call[0]
+
+
+def words_text(words):
+    return "".join([" %d:%x" % (p, w) for p, w in enumerate(words) if w])
+
+
+class Session:
+    """Lines, and what xdrill answers to each; after each `every` calls all words."""
+
+    def __init__(self, name, every):
+        self.name, self.every = name, every
+        self.r = random.Random("compare/%s" % name)
+        self.drill = xdrill.Drill()
+        self.lines, self.answers = [], []
+        self.kinds, self.errnos = collections.Counter(), collections.Counter()
+        self.calls = 0
+
+    @property
+    def device(self):
+        return self.drill.device
+
+    def add(self, line, answer):
+        self.lines.append(line)
+        self.answers.append(answer)
+
+    def add_call(self, line, call, answer):
+        self.add(line, answer)
+        self.calls += 1
+        self.kinds[kind_of(call)] += 1
+        if answer.startswith("-"):
+            self.errnos[int(answer[1:])] += 1
+        if self.calls % self.every == 0:
+            self.look()
+
+    def look(self):
+        self.add(b"words", words_text(sessions.encode(self.device)))
+        self.add(b"dump", self.drill.dump())
+
+    def call(self, line):
+        """Adds a line, if it is a call that the driver has."""
+        call = call_of(line)
+        if call is None:
+            return
+        answer = self.drill.line(line)
+        if answer != "?":
+            self.add_call(line, call, answer)
+
+    def number(self, word, *numbers):
+        self.call(b" ".join([word, *(b"%x" % n for n in numbers)]))
+
+    def unsound(self, line):
+        """A call on a state that is not sound: 14, but for a make of the right length."""
+        call = call_of(line)
+        if call is None or xdrill.Drill().line(line) == "?":
+            return
+        words = sessions.encode(self.device)
+        state = self.r.choice(sessions.damages(words, self.r))
+        makes = call[0] == "make"
+        if len(state) != len(words):
+            line, makes = b"length %x %s" % (len(state), line), False
+        else:
+            at = next(p for p in range(len(words)) if words[p] != state[p])
+            line = b"poke %x %x %s" % (at, state[at], line)
+        if makes:
+            self.drill = xdrill.Drill()
+        self.add_call(line, call, "ok" if makes else "-14")
+
+    def interface(self):
+        """Random values in the CPU interfaces: no call that is compared writes them."""
+        r = self.r
+        for vcpu in self.device.vcpus:
+            vcpu.pmr, vcpu.eoimode = 8 * r.randrange(32), r.randrange(2)
+            vcpu.bpr = [r.randrange(2, 8), r.randrange(3, 8)]
+            vcpu.apr = [r.getrandbits(32), r.getrandbits(32)]
+            vcpu.grpen = [r.randrange(2), r.randrange(2)]
+        words = sessions.encode(self.device)
+        for at in range(16, 16 + 32 * len(self.device.vcpus)):
+            if (at - 16) % 32 in range(19, 27):
+                self.add(b"put %x %x" % (at, words[at]), "ok")
+
+
+# ---- random accesses -------------------------------------------------------
+
+DISTRIBUTOR = [(0, 0x20), (0x80, 0x400), (0x400, 0x800), (0xC00, 0xD00),
+               (0x6000, 0x8000), (0, 0x10000)]
+FRAME = [(0, 0x20), (0x10080, 0x10400), (0x10400, 0x10420), (0x10C00, 0x10C10),
+         (0, 0x20000)]
+SIZES = [4] * 8 + [1] * 6 + [0, 2, 3, 8, 1 << 32 | 4, 1 << 32 | 1, U64]
+
+
+class Accesses:
+    """Random lines: any size, any offset, any value."""
+
+    def __init__(self, session):
+        self.s, self.r = session, session.r
+
+    def offset(self, ranges):
+        at = self.r.randrange(*self.r.choice(ranges))
+        if self.r.random() < 0.7:
+            at -= at % 4
+        if self.r.random() < 0.04:
+            at += self.r.getrandbits(32) << 32
+        if self.r.random() < 0.02:
+            at = self.r.choice([U64, U64 - 3, 1 << 63, self.r.getrandbits(64)])
+        return at
+
+    def value(self):
+        return self.r.choice([self.r.getrandbits(64), self.r.getrandbits(32),
+                              1 << self.r.randrange(64), U64, 0,
+                              self.r.choice(gen.WORDS)])
+
+    def index(self, wanted):
+        """Mostly one of those wanted."""
+        n = len(self.s.device.vcpus)
+        if not wanted or self.r.random() < 0.03:
+            return self.r.choice([n, 8, 1 << 32, U64, self.r.randrange(8)])
+        return self.r.choice(wanted)
+
+    def write_and_read(self, write, read, place, value):
+        if self.r.random() < 0.6:
+            self.s.number(write, *place, value)
+        if self.r.random() < 0.6:
+            self.s.number(read, *place)
+
+    def guest(self):
+        vcpus = self.s.device.vcpus
+        v = self.index([i for i, vcpu in enumerate(vcpus) if vcpu.running])
+        size, value = self.r.choice(SIZES), self.value()
+        if self.r.random() < 0.6:
+            place = (v, self.offset(DISTRIBUTOR), size)
+            self.write_and_read(b"wdw", b"rdw", place, value)
+        else:
+            place = (v, self.index(range(len(vcpus))), self.offset(FRAME), size)
+            self.write_and_read(b"wrw", b"rrw", place, value)
+
+    def low(self, group):
+        """Bits 31-0 of an attribute, and now and then more."""
+        if group != 7:
+            return self.offset(DISTRIBUTOR if group == 1 else FRAME)
+        odd = self.r.choice([1, 31, 1 << self.r.randrange(10, 32)])
+        return 32 * self.r.randrange(33) + (odd if self.r.random() < 0.1 else 0)
+
+    def attribute(self):
+        group = self.r.choice((1, 1, 1, 5, 5, 7, 7, self.r.choice(GROUPS)))
+        high = self.r.choice([v.affinity for v in self.s.device.vcpus]
+                             + [0, self.r.getrandbits(32)])
+        value = self.value()
+        if self.r.random() < 0.8:
+            value &= U32
+        place = (group, (high << 32) + self.low(group) & U64)
+        self.write_and_read(b"set", b"get", place, value)
+
+    def any(self):
+        stopped = not self.s.device.any_running()
+        if self.r.random() < (0.8 if stopped else 0.04):
+            self.attribute()
+        else:
+            self.guest()
+
+
+# ---- sessions --------------------------------------------------------------
+
+def random_session(seed, lines):
+    """gen.py's lines, with accesses and unsound states between them."""
+    session = Session("seed %s" % seed, 10)
+    accesses = Accesses(session)
+    for line in xdrill.split_lines(gen.generate(seed, lines)):
+        session.call(line)
+        if session.r.random() < 0.2:
+            accesses.any()
+        if session.r.random() < 0.02:
+            session.unsound(line)
+        if session.device.initialised and session.r.random() < 0.01:
+            session.interface()
+    session.look()
+    return session
+
+
+def sweep(session, write, read, places):
+    """Writes a random word at each place and reads it."""
+    for place in places:
+        session.number(write, *place, session.r.getrandbits(32))
+        session.number(read, *place)
+
+
+def every_offset(count):
+    """Each aligned offset around the listed ones, and each byte of IPRIORITYR."""
+    session = Session("every offset, count %d" % count, 64)
+    affinities = (0x10203, 0xF)
+    for line in (b"new", b"irqs %x" % count, b"vcpu 10203", b"vcpu f", b"init"):
+        session.call(line)
+    words = range(0, 0x8040, 4)
+    frame = [*range(0, 0x100, 4), *range(0x10000, 0x10D00, 4), 0x20000, 0x20080]
+    sweep(session, b"set", b"get", [(1, at) for at in words])
+    sweep(session, b"set", b"get", [(5, a << 32 | at) for at in frame
+                                    for a in affinities])
+    sweep(session, b"set", b"get", [(7, a << 32 | i) for i in range(0, 1024, 32)
+                                    for a in affinities])
+    session.number(b"run", 0, 1)
+    sweep(session, b"dw", b"dr", [(0, at) for at in words])
+    sweep(session, b"rw", b"rr", [(0, f, at) for at in frame for f in (0, 1)])
+    sweep(session, b"wdb", b"rdb", [(0, at) for at in range(0x3F0, 0x810)])
+    sweep(session, b"wrb", b"rrb", [(0, f, at) for at in range(0x103F0, 0x10430)
+                                    for f in (0, 1)])
+    session.look()
+    return session
+
+
+# ---- comparing -------------------------------------------------------------
+
+def run_tool(*words, cwd=None):
+    """What the tool prints is shown only if it fails, with status 2."""
+    run = subprocess.run(words, cwd=cwd, stdout=subprocess.PIPE,
+                         stderr=subprocess.STDOUT)
+    if run.returncode:
+        print(run.stdout.decode() + "compare.py: failed: " + " ".join(words))
+        sys.exit(2)
+
+
+def build():
+    """The driver, linked with the library."""
+    os.makedirs(MADE, exist_ok=True)
+    library = os.environ.get("LIBRARY")
+    if not library:
+        run_tool("rt", "staticlib", "abi", cwd=ROOT)
+        library = os.path.join(ROOT, "target", "staticlib", "libabi.a")
+    driver = os.path.join(MADE, "driver")
+    source = os.path.join(ROOT, "tests", "driver.c")
+    run_tool("cc", "-O2", "-Wall", "-Wextra", "-o", driver, source, library)
+    return driver
+
+
+def show_words(expected, got):
+    """The first word that differs."""
+    xdrills, librarys = (dict(item.split(":") for item in text.split())
+                         for text in (expected, got))
+    for at in map(str, range(sessions.STATE_WORDS)):
+        x, y = xdrills.get(at, "0"), librarys.get(at, "0")
+        if x != y:
+            print("word %s, %s:" % (at, sessions.place_name(int(at))))
+            return x, y
+    return expected, got
+
+
+def show(session, at, got):
+    """The line at which the two differ; all lines since the last `new` go to a file."""
+    line, expected = session.lines[at], session.answers[at]
+    first = max((i for i in range(at) if session.lines[i] == b"new"), default=0)
+    print("DIFFERENT: %s, line %d: %s" % (session.name, at + 1, line.decode()))
+    if line == b"words":
+        expected, got = show_words(expected, got)
+    print("xdrill:  %s\nlibrary: %s" % (expected[:400], got[:400]))
+    calls = [l for l in session.lines[first:at] if l not in (b"words", b"dump")]
+    print("after:\n  " + b"\n  ".join(calls[-session.every:]).decode())
+    path = os.path.join(MADE, "lines")
+    with open(path, "wb") as file:
+        file.write(b"\n".join(session.lines[first:at + 1]) + b"\n")
+    print("all lines since the device was made: " + os.path.relpath(path, ROOT))
+
+
+def compare(driver, session):
+    """Whether the driver prints what xdrill does."""
+    run = subprocess.run([driver], input=b"\n".join(session.lines) + b"\n",
+                         capture_output=True)
+    printed = run.stdout.decode().split("\n")[:-1]
+    at = next((i for i, (x, y) in enumerate(zip(printed, session.answers)) if x != y),
+              len(printed))
+    if at == len(session.lines) and run.returncode == 0:
+        return True
+    show(session, at, printed[at] if at < len(printed)
+         else "nothing, status %d. %s" % (run.returncode, run.stderr.decode()))
+    return False
+
+
+def report(done):
+    kinds = sum((s.kinds for s in done), collections.Counter())
+    errnos = sum((s.errnos for s in done), collections.Counter())
+    for kind, n in sorted(kinds.items()):
+        print("%-24s %8d" % (kind, n))
+    for errno, n in sorted(errnos.items()):
+        print("%-24s %8d" % ("refused with -%d" % errno, n))
+    print("%d calls compared, %d of them refused, and all words %d times; none differ"
+          % (sum(kinds.values()), sum(errnos.values()),
+             sum(s.lines.count(b"words") for s in done)))
+
+
+def every_session(seed, wanted):
+    yield every_offset(64)
+    yield every_offset(1024)
+    calls = 0
+    while calls < wanted:
+        session = random_session(seed, min(10000, 2 * wanted))
+        calls += session.calls
+        seed += 1
+        yield session
+
+
+def main():
+    seed = int(sys.argv[1]) if len(sys.argv) > 1 else 1
+    wanted = int(sys.argv[2]) if len(sys.argv) > 2 else 100000
+    driver, done = build(), []
+    for session in every_session(seed, wanted):
+        if not compare(driver, session):
+            return 1
+        done.append(session)
+    report(done)
+    return 0
+
+
+if __name__ == "__main__":
+    sys.exit(main())
