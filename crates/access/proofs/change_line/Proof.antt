@@ -7,4 +7,8 @@ use Rattle.access.proofs.change_line.Statement.{statement}
 use Rattle.access.proofs.change_line.Tie as tie
 
 pub change-line-spec : {M : Type 1} → statement M
-change-line-spec = tie.close (tie.spec (λ c κs. search needs) (λ c. search needs) (λ c. search needs) (λ c. unfold lentTo lentBytes checks in (search answering)) (λ c. search needs) (λ c κs. search (admitted-size, admitted-few, line-admitted)) (λ c. search needs) (λ c. unfold lentTo filled checks value next in (search answering)))
+change-line-spec =
+    tie.close
+    (tie.spec (λ c κs. search needs) (λ c. search needs) (λ c. search needs) (λ c. unfold lentTo lentBytes checks in (search answering))
+    (λ c. search needs) (λ c κs. search (admitted-size, admitted-few, line-admitted)) (λ c. search needs)
+    (λ c. unfold lentTo filled checks value next in (search answering)))

@@ -5,4 +5,6 @@ use Rattle.access.proofs.has_line.Statement.{statement}
 use Rattle.access.proofs.has_line.Tie as tie
 
 pub has-line-spec : {M : Type 1} → statement M
-has-line-spec = tie.close (tie.spec (λ c. search needs) (λ c κs. search needs) (λ c. search ppi-line) (λ c κs. search needs) (λ c. search spi-line))
+has-line-spec =
+    tie.close
+    (tie.spec (λ c. search needs) (λ c κs. search needs) (λ c. search ppi-line) (λ c κs. search needs) (λ c. search spi-line))

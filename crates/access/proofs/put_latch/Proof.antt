@@ -5,4 +5,7 @@ use Rattle.access.proofs.put_latch.Statement.{statement}
 use Rattle.access.proofs.put_latch.Tie as tie
 
 pub put-latch-spec : {M : Type 1} → statement M
-put-latch-spec = tie.close (tie.spec (λ c. search needs) (λ c κs. search needs) (λ c. search needs) (λ c. search needs) (λ c. search latch-on) (λ c. search latch-off))
+put-latch-spec =
+    tie.close
+    (tie.spec (λ c. search needs) (λ c κs. search needs) (λ c. search needs) (λ c. search needs) (λ c. search latch-on)
+    (λ c. search latch-off))

@@ -8,4 +8,7 @@ use Rattle.access.proofs.read_distributor.Statement.{statement}
 use Rattle.access.proofs.read_distributor.Tie as tie
 
 pub read-distributor-spec : {M : Type 1} → statement M
-read-distributor-spec = tie.close (tie.spec (λ c κs. search needs) (λ c. search needs) (λ c. unfold lentTo lentBytes checks in (search answering)) (λ c. search needs) (λ c κs. unfold seenBy in (search (admitted-sound, lit<))) (λ c. unfold lentTo filled checks value next in (search answering)))
+read-distributor-spec =
+    tie.close
+    (tie.spec (λ c κs. search needs) (λ c. search needs) (λ c. unfold lentTo lentBytes checks in (search answering)) (λ c. search needs)
+    (λ c κs. unfold seenBy in (search (admitted-sound, lit<))) (λ c. unfold lentTo filled checks value next in (search answering)))

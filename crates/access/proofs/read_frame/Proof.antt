@@ -8,4 +8,7 @@ use Rattle.access.proofs.read_frame.Statement.{statement}
 use Rattle.access.proofs.read_frame.Tie as tie
 
 pub read-frame-spec : {M : Type 1} → statement M
-read-frame-spec = tie.close (tie.spec (λ c κs. search needs) (λ c. search needs) (λ c. unfold lentTo lentBytes checks in (search answering)) (λ c. search needs) (λ c κs. unfold seenBy in (search (admitted-sound, frame-inside))) (λ c. unfold lentTo filled checks value next in (search answering)))
+read-frame-spec =
+    tie.close
+    (tie.spec (λ c κs. search needs) (λ c. search needs) (λ c. unfold lentTo lentBytes checks in (search answering)) (λ c. search needs)
+    (λ c κs. unfold seenBy in (search (admitted-sound, frame-inside))) (λ c. unfold lentTo filled checks value next in (search answering)))

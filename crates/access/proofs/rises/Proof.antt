@@ -5,4 +5,7 @@ use Rattle.access.proofs.rises.Statement.{statement}
 use Rattle.access.proofs.rises.Tie as tie
 
 pub rises-spec : {M : Type 1} → statement M
-rises-spec = tie.close (tie.spec (λ c. search needs) (λ c. search needs) (λ c. search needs) (λ c. search needs) (λ c κs. search needs) (λ c. search needs) (λ c κs. search needs) (λ c. unfold risesIn in cc))
+rises-spec =
+    tie.close
+    (tie.spec (λ c. search needs) (λ c. search needs) (λ c. search needs) (λ c. search needs) (λ c κs. search needs) (λ c. search needs)
+    (λ c κs. search needs) (λ c. unfold risesIn in cc))

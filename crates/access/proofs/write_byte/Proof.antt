@@ -6,4 +6,6 @@ use Rattle.access.proofs.write_byte.Statement.{statement}
 use Rattle.access.proofs.write_byte.Tie as tie
 
 pub write-byte-spec : {M : Type 1} → statement M
-write-byte-spec = tie.close (tie.spec (λ c. search needs) (λ c κs. search needs) (λ c κs. search asked) (λ c. search needs) (λ c. search byte-put))
+write-byte-spec =
+    tie.close
+    (tie.spec (λ c. search needs) (λ c κs. search needs) (λ c κs. search asked) (λ c. search needs) (λ c. search byte-put))

@@ -8,4 +8,8 @@ use Rattle.access.proofs.write_distributor.Statement.{statement}
 use Rattle.access.proofs.write_distributor.Tie as tie
 
 pub write-distributor-spec : {M : Type 1} → statement M
-write-distributor-spec = tie.close (tie.spec (λ c κs. search needs) (λ c. search needs) (λ c. search needs) (λ c. unfold lentTo lentBytes checks in (search answering)) (λ c. search needs) (λ c κs. unfold seenBy in (search (admitted-sound, lit<))) (λ c. search needs) (λ c. unfold lentTo filled checks value next in (search answering)))
+write-distributor-spec =
+    tie.close
+    (tie.spec (λ c κs. search needs) (λ c. search needs) (λ c. search needs) (λ c. unfold lentTo lentBytes checks in (search answering))
+    (λ c. search needs) (λ c κs. unfold seenBy in (search (admitted-sound, lit<))) (λ c. search needs)
+    (λ c. unfold lentTo filled checks value next in (search answering)))

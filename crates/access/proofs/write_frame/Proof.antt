@@ -8,4 +8,8 @@ use Rattle.access.proofs.write_frame.Statement.{statement}
 use Rattle.access.proofs.write_frame.Tie as tie
 
 pub write-frame-spec : {M : Type 1} → statement M
-write-frame-spec = tie.close (tie.spec (λ c κs. search needs) (λ c. search needs) (λ c. search needs) (λ c. unfold lentTo lentBytes checks in (search answering)) (λ c. search needs) (λ c κs. unfold seenBy in (search (admitted-sound, frame-inside))) (λ c. search needs) (λ c. unfold lentTo filled checks value next in (search answering)))
+write-frame-spec =
+    tie.close
+    (tie.spec (λ c κs. search needs) (λ c. search needs) (λ c. search needs) (λ c. unfold lentTo lentBytes checks in (search answering))
+    (λ c. search needs) (λ c κs. unfold seenBy in (search (admitted-sound, frame-inside))) (λ c. search needs)
+    (λ c. unfold lentTo filled checks value next in (search answering)))

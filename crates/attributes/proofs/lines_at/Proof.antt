@@ -5,4 +5,6 @@ use Rattle.attributes.proofs.lines_at.Statement.{statement}
 use Rattle.attributes.proofs.lines_at.Tie as tie
 
 pub lines-at-spec : {M : Type 1} → statement M
-lines-at-spec = tie.close (tie.spec (λ c κs. search needs) (λ c κs. search needs) (λ c κs. search needs) (λ c. search lines-private) (λ c. search lines-shared))
+lines-at-spec =
+    tie.close
+    (tie.spec (λ c κs. search needs) (λ c κs. search needs) (λ c κs. search needs) (λ c. search lines-private) (λ c. search lines-shared))

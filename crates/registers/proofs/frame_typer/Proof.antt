@@ -17,4 +17,5 @@ returns-2 c = rw (ne-eqb _ _ (c .if1 .left)) (omega arith)
 pub frame-typer-spec : {M : Type 1} → statement M
 frame-typer-spec =
     tie.close
-    (tie.spec (λ c. search needs) (λ c. search needs) (λ c. search needs) (λ c. search needs) (λ c. search needs) (λ c. search needs) returns returns-2)
+    (tie.spec (λ c. search needs) (λ c. search needs) (λ c. search needs) (λ c. search needs) (λ c. search needs) (λ c. search needs)
+    returns returns-2)

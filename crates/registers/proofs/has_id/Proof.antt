@@ -5,4 +5,6 @@ use Rattle.registers.proofs.has_id.Statement.{statement}
 use Rattle.registers.proofs.has_id.Tie as tie
 
 pub has-id-spec : {M : Type 1} → statement M
-has-id-spec = tie.close (tie.spec (λ c. search needs) (λ c κs. search needs) (λ c. search needs) (λ c. search has-distributor) (λ c. search has-frame))
+has-id-spec =
+    tie.close
+    (tie.spec (λ c. search needs) (λ c κs. search needs) (λ c. search needs) (λ c. search has-distributor) (λ c. search has-frame))

@@ -16,4 +16,5 @@ returns c = rw (low-bits 16 (omega arith) (gathered _ (c .replace-under .ensures
 pub put-edges-spec : {M : Type 1} → statement M
 put-edges-spec =
     tie.close
-    (tie.spec (λ c. search needs) (λ c. search needs) (λ c κs. search needs) (λ c. search needs) (λ c. search needs) (λ c. search needs) returns)
+    (tie.spec (λ c. search needs) (λ c. search needs) (λ c κs. search needs) (λ c. search needs) (λ c. search needs) (λ c. search needs)
+    returns)

@@ -5,4 +5,7 @@ use Rattle.registers.proofs.read_config.Statement.{statement}
 use Rattle.registers.proofs.read_config.Tie as tie
 
 pub read-config-spec : {M : Type 1} → statement M
-read-config-spec = tie.close (tie.spec (λ c κs. search needs) (λ c. search needs) (λ c. search needs) (λ c. search needs) (λ c. search needs) (λ c κs. search needs) (λ c κs. search needs) (λ c. search reads-config))
+read-config-spec =
+    tie.close
+    (tie.spec (λ c κs. search needs) (λ c. search needs) (λ c. search needs) (λ c. search needs) (λ c. search needs) (λ c κs. search needs)
+    (λ c κs. search needs) (λ c. search reads-config))

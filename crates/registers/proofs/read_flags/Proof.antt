@@ -5,4 +5,8 @@ use Rattle.registers.proofs.read_flags.Statement.{statement}
 use Rattle.registers.proofs.read_flags.Tie as tie
 
 pub read-flags-spec : {M : Type 1} → statement M
-read-flags-spec = tie.close (tie.spec (λ c κs. search needs) (λ c. search needs) (λ c. search needs) (λ c. search needs) (λ c. search needs) (λ c. search needs) (λ c κs. search needs) (λ c κs. search needs) (λ c κs. search needs) (λ c κs. search needs) (λ c κs. search needs) (λ c. search reads-flags))
+read-flags-spec =
+    tie.close
+    (tie.spec (λ c κs. search needs) (λ c. search needs) (λ c. search needs) (λ c. search needs) (λ c. search needs) (λ c. search needs)
+    (λ c κs. search needs) (λ c κs. search needs) (λ c κs. search needs) (λ c κs. search needs) (λ c κs. search needs)
+    (λ c. search reads-flags))

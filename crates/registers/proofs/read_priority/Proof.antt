@@ -5,4 +5,7 @@ use Rattle.registers.proofs.read_priority.Statement.{statement}
 use Rattle.registers.proofs.read_priority.Tie as tie
 
 pub read-priority-spec : {M : Type 1} → statement M
-read-priority-spec = tie.close (tie.spec (λ c κs. search needs) (λ c. search needs) (λ c. search needs) (λ c. search needs) (λ c. search needs) (λ c κs. search needs) (λ c. search reads-priority))
+read-priority-spec =
+    tie.close
+    (tie.spec (λ c κs. search needs) (λ c. search needs) (λ c. search needs) (λ c. search needs) (λ c. search needs) (λ c κs. search needs)
+    (λ c. search reads-priority))

@@ -6,4 +6,16 @@ use Rattle.registers.proofs.rule_for.Statement.{statement}
 use Rattle.registers.proofs.rule_for.Tie as tie
 
 pub rule-for-spec : {M : Type 1} → statement M
-rule-for-spec = tie.close (tie.spec (λ c. search needs) (λ c κs. search needs) (λ c. search needs) (λ c κs. search needs) (λ c. search needs) (λ c κs. search needs) (λ c. search needs) (λ c κs. search needs) (λ c. search needs) (λ c κs. search needs) (λ c. search needs) (λ c κs. search needs) (λ c. search needs) (λ c κs. search needs) (λ c. search needs) (λ c κs. search needs) (λ c. unfold flags ruleFor in (search (row-is (λ b f. ruleFor b (flags f))))) (λ c. unfold flags ruleFor in (search (row-is (λ b f. ruleFor b (flags f))))) (λ c. unfold flags ruleFor in (search (row-is (λ b f. ruleFor b (flags f))))) (λ c. unfold flags ruleFor in (search (row-is (λ b f. ruleFor b (flags f))))) (λ c. unfold flags ruleFor in (search (row-is (λ b f. ruleFor b (flags f))))) (λ c. unfold flags ruleFor in (search (row-is (λ b f. ruleFor b (flags f))))) (λ c. unfold flags ruleFor in (search (row-is (λ b f. ruleFor b (flags f))))) (λ c. unfold flags ruleFor in (search (row-is (λ b f. ruleFor b (flags f))))))
+rule-for-spec =
+    tie.close
+    (tie.spec (λ c. search needs) (λ c κs. search needs) (λ c. search needs) (λ c κs. search needs) (λ c. search needs)
+    (λ c κs. search needs) (λ c. search needs) (λ c κs. search needs) (λ c. search needs) (λ c κs. search needs) (λ c. search needs)
+    (λ c κs. search needs) (λ c. search needs) (λ c κs. search needs) (λ c. search needs) (λ c κs. search needs)
+    (λ c. unfold flags ruleFor in (search (row-is (λ b f. ruleFor b (flags f)))))
+    (λ c. unfold flags ruleFor in (search (row-is (λ b f. ruleFor b (flags f)))))
+    (λ c. unfold flags ruleFor in (search (row-is (λ b f. ruleFor b (flags f)))))
+    (λ c. unfold flags ruleFor in (search (row-is (λ b f. ruleFor b (flags f)))))
+    (λ c. unfold flags ruleFor in (search (row-is (λ b f. ruleFor b (flags f)))))
+    (λ c. unfold flags ruleFor in (search (row-is (λ b f. ruleFor b (flags f)))))
+    (λ c. unfold flags ruleFor in (search (row-is (λ b f. ruleFor b (flags f)))))
+    (λ c. unfold flags ruleFor in (search (row-is (λ b f. ruleFor b (flags f))))))

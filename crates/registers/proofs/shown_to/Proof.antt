@@ -6,4 +6,16 @@ use Rattle.registers.proofs.shown_to.Statement.{statement}
 use Rattle.registers.proofs.shown_to.Tie as tie
 
 pub shown-to-spec : {M : Type 1} → statement M
-shown-to-spec = tie.close (tie.spec (λ c. search needs) (λ c κs. search needs) (λ c. search needs) (λ c κs. search needs) (λ c. search needs) (λ c κs. search needs) (λ c. search needs) (λ c κs. search needs) (λ c. search needs) (λ c κs. search needs) (λ c. search needs) (λ c κs. search needs) (λ c. search needs) (λ c κs. search needs) (λ c. search needs) (λ c κs. search needs) (λ c. unfold flags shownTo in (search (row-is (λ b f. shownTo b (flags f))))) (λ c. unfold flags shownTo in (search (row-is (λ b f. shownTo b (flags f))))) (λ c. unfold flags shownTo in (search (row-is (λ b f. shownTo b (flags f))))) (λ c. unfold flags shownTo in (search (row-is (λ b f. shownTo b (flags f))))) (λ c. unfold flags shownTo in (search (row-is (λ b f. shownTo b (flags f))))) (λ c. unfold flags shownTo in (search (row-is (λ b f. shownTo b (flags f))))) (λ c. unfold flags shownTo in (search (row-is (λ b f. shownTo b (flags f))))) (λ c. unfold flags shownTo in (search (row-is (λ b f. shownTo b (flags f))))))
+shown-to-spec =
+    tie.close
+    (tie.spec (λ c. search needs) (λ c κs. search needs) (λ c. search needs) (λ c κs. search needs) (λ c. search needs)
+    (λ c κs. search needs) (λ c. search needs) (λ c κs. search needs) (λ c. search needs) (λ c κs. search needs) (λ c. search needs)
+    (λ c κs. search needs) (λ c. search needs) (λ c κs. search needs) (λ c. search needs) (λ c κs. search needs)
+    (λ c. unfold flags shownTo in (search (row-is (λ b f. shownTo b (flags f)))))
+    (λ c. unfold flags shownTo in (search (row-is (λ b f. shownTo b (flags f)))))
+    (λ c. unfold flags shownTo in (search (row-is (λ b f. shownTo b (flags f)))))
+    (λ c. unfold flags shownTo in (search (row-is (λ b f. shownTo b (flags f)))))
+    (λ c. unfold flags shownTo in (search (row-is (λ b f. shownTo b (flags f)))))
+    (λ c. unfold flags shownTo in (search (row-is (λ b f. shownTo b (flags f)))))
+    (λ c. unfold flags shownTo in (search (row-is (λ b f. shownTo b (flags f)))))
+    (λ c. unfold flags shownTo in (search (row-is (λ b f. shownTo b (flags f))))))

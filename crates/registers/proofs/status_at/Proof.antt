@@ -19,5 +19,5 @@ frame-index x v e h = rw e at h
 pub status-at-spec : {M : Type 1} → statement M
 status-at-spec =
     tie.close
-    (tie.spec (λ c. search needs) (λ c. search needs) (λ c κs. search frame-index) (λ c. search needs) (λ c. unfold statusAt in (cc, lit< tt))
-    (λ c. unfold statusAt in (cc, omega arith)))
+    (tie.spec (λ c. search needs) (λ c. search needs) (λ c κs. search frame-index) (λ c. search needs)
+    (λ c. unfold statusAt in (cc, lit< tt)) (λ c. unfold statusAt in (cc, omega arith)))

@@ -5,4 +5,7 @@ use Rattle.registers.proofs.write_config.Statement.{statement}
 use Rattle.registers.proofs.write_config.Tie as tie
 
 pub write-config-spec : {M : Type 1} → statement M
-write-config-spec = tie.close (tie.spec (λ c κs. search needs) (λ c κs. search needs) (λ c. search needs) (λ c. search needs) (λ c. search needs) (λ c. search needs) (λ c. search needs) (λ c. search needs) (λ c κs. search needs) (λ c κs. search needs) (λ c. search needs) (λ c. search writes-config))
+write-config-spec =
+    tie.close
+    (tie.spec (λ c κs. search needs) (λ c κs. search needs) (λ c. search needs) (λ c. search needs) (λ c. search needs) (λ c. search needs)
+    (λ c. search needs) (λ c. search needs) (λ c κs. search needs) (λ c κs. search needs) (λ c. search needs) (λ c. search writes-config))

@@ -5,4 +5,8 @@ use Rattle.registers.proofs.write_priority.Statement.{statement}
 use Rattle.registers.proofs.write_priority.Tie as tie
 
 pub write-priority-spec : {M : Type 1} → statement M
-write-priority-spec = tie.close (tie.spec (λ c κs. search needs) (λ c κs. search needs) (λ c κs. search needs) (λ c. search needs) (λ c. search needs) (λ c. search needs) (λ c. search needs) (λ c. search needs) (λ c. search needs) (λ c κs. search needs) (λ c. search needs) (λ c. search writes-priority))
+write-priority-spec =
+    tie.close
+    (tie.spec (λ c κs. search needs) (λ c κs. search needs) (λ c κs. search needs) (λ c. search needs) (λ c. search needs)
+    (λ c. search needs) (λ c. search needs) (λ c. search needs) (λ c. search needs) (λ c κs. search needs) (λ c. search needs)
+    (λ c. search writes-priority))

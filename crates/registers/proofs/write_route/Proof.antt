@@ -12,5 +12,5 @@ returns c = rw (← c .before .has-id .ensures, c .if1 .taken, route-place)
 pub write-route-spec : {M : Type 1} → statement M
 write-route-spec =
     tie.close
-    (tie.spec (λ c. search needs) (λ c κs. search needs) (λ c. search needs) (λ c. search needs) (λ c. search needs) (λ c. search needs) returns
-    (λ c. search needs) (λ c. unfold writeRoute in (rw (← c .before .has-id .ensures, c .if1 .left))))
+    (tie.spec (λ c. search needs) (λ c κs. search needs) (λ c. search needs) (λ c. search needs) (λ c. search needs) (λ c. search needs)
+    returns (λ c. search needs) (λ c. unfold writeRoute in (rw (← c .before .has-id .ensures, c .if1 .left))))

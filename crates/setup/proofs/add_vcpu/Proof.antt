@@ -16,5 +16,5 @@ write-vcpu-requires c κs = (search admitted-size, search add-room)
 pub add-vcpu-spec : {M : Type 1} → statement M
 add-vcpu-spec =
     tie.close
-    (tie.spec (λ c κs. search needs) (λ c. search needs) (λ c. search needs) returns (λ c. search needs)
-    write-vcpu-requires (λ c. search needs) (λ c. unfold lentTo checks filled value next in (search answering)))
+    (tie.spec (λ c κs. search needs) (λ c. search needs) (λ c. search needs) returns (λ c. search needs) write-vcpu-requires
+    (λ c. search needs) (λ c. unfold lentTo checks filled value next in (search answering)))

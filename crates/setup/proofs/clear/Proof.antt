@@ -45,16 +45,4 @@ returns c =
     c .before .loop .inv .1 ∙ ap (λ (k : ℕ). replicate k 0 ++ drop k d) e ∙ ap (λ (l : List ℕ). replicate (length d) 0 ++ l) (drop-length d) ∙ append-nil _
 
 pub clear-spec : {M : Type 1} → statement M
-clear-spec =
-    tie.close
-    (tie.spec
-    Inv-loop
-    μ-loop
-    loop-holds
-    mul-s
-    slice-write-s
-    add-i
-    loop-less
-    loop-again
-    same-length
-    returns)
+clear-spec = tie.close (tie.spec Inv-loop μ-loop loop-holds mul-s slice-write-s add-i loop-less loop-again same-length returns)

@@ -8,5 +8,8 @@ use Rattle.setup.proofs.get_count.Statement.{statement}
 use Rattle.setup.proofs.get_count.Tie as tie
 
 pub get-count-spec : {M : Type 1} → statement M
-get-count-spec = tie.close (tie.spec (λ c κs. search needs) (λ c. unfold lentTo lentBytes acceptable in (search (answering, fault-is, refusing) depth 12)) (λ c. search inside)
+get-count-spec =
+    tie.close
+    (tie.spec (λ c κs. search needs) (λ c. unfold lentTo lentBytes acceptable in (search (answering, fault-is, refusing) depth 12))
+    (λ c. search inside)
     (λ c. unfold lentTo filled acceptable checks getChecks groupOf value getValue next in (search (answering, none-is, refusing) depth 12)))

@@ -8,5 +8,7 @@ use Rattle.setup.proofs.get_initialise.Statement.{statement}
 use Rattle.setup.proofs.get_initialise.Tie as tie
 
 pub get-initialise-spec : {M : Type 1} → statement M
-get-initialise-spec = tie.close (tie.spec (λ c κs. search needs) (λ c. unfold lentTo lentBytes acceptable in (search (answering, fault-is, refusing) depth 12))
+get-initialise-spec =
+    tie.close
+    (tie.spec (λ c κs. search needs) (λ c. unfold lentTo lentBytes acceptable in (search (answering, fault-is, refusing) depth 12))
     (λ c. unfold lentTo lentBytes acceptable checks getChecks groupOf in (search (answering, refuse-is, refusing) depth 12)))

@@ -12,5 +12,6 @@ write-initialised-requires c κs = search admitted-size
 pub initialise-spec : {M : Type 1} → statement M
 initialise-spec =
     tie.close
-    (tie.spec (λ c κs. search needs) (λ c. search needs) (λ c. search needs) (λ c. unfold lentTo lentBytes checks setChecks groupOf in (search answering)) (λ c. search needs)
-    write-initialised-requires (λ c. search needs) (λ c. unfold lentTo checks setChecks filled value next setState groupOf in (search answering)))
+    (tie.spec (λ c κs. search needs) (λ c. search needs) (λ c. search needs)
+    (λ c. unfold lentTo lentBytes checks setChecks groupOf in (search answering)) (λ c. search needs) write-initialised-requires
+    (λ c. search needs) (λ c. unfold lentTo checks setChecks filled value next setState groupOf in (search answering)))

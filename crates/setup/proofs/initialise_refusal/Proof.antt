@@ -9,6 +9,5 @@ pub initialise-refusal-spec : {M : Type 1} → statement M
 initialise-refusal-spec =
     tie.close
     (tie.spec (λ c κs. search needs) (λ c. unfold setChecks in (search refusing depth 12))
-    (λ c. unfold setChecks in (search refusing depth 12)) (λ c κs. search inside)
-    (λ c. unfold setChecks in (search refusing depth 12))
+    (λ c. unfold setChecks in (search refusing depth 12)) (λ c κs. search inside) (λ c. unfold setChecks in (search refusing depth 12))
     (λ c. unfold setChecks in (search refusing depth 12)))

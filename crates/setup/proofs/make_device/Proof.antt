@@ -15,5 +15,7 @@ all-zero : (s t : List ℕ) → length s ≡ 1760 → t ≡ replicate (length s)
 all-zero s t l e = e ∙ ap (λ (n : ℕ). replicate n 0) l
 
 pub make-device-spec : {M : Type 1} → statement M
-make-device-spec = tie.close (tie.spec (λ c. unfold lentTo acceptable lentBytes in (search (refuses, fault-is, ne-eqb))) (λ c κs. search needs) (λ c. search needs)
+make-device-spec =
+    tie.close
+    (tie.spec (λ c. unfold lentTo acceptable lentBytes in (search (refuses, fault-is, ne-eqb))) (λ c κs. search needs) (λ c. search needs)
     (λ c. unfold lentTo acceptable checks value next made filled in (search (grants, none-is, eq-eqb, all-zero))))

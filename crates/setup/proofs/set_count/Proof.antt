@@ -17,5 +17,6 @@ slice-write-s c = search (admitted-inside, lit<)
 pub set-count-spec : {M : Type 1} → statement M
 set-count-spec =
     tie.close
-    (tie.spec (λ c κs. search needs) (λ c. search needs) (λ c. search needs) (λ c. unfold lentTo lentBytes checks setChecks groupOf in (search answering)) (λ c. search needs)
-    cast-s slice-write-s (λ c. search needs) (λ c. unfold lentTo checks setChecks filled value next setState groupOf in (search answering)))
+    (tie.spec (λ c κs. search needs) (λ c. search needs) (λ c. search needs)
+    (λ c. unfold lentTo lentBytes checks setChecks groupOf in (search answering)) (λ c. search needs) cast-s slice-write-s
+    (λ c. search needs) (λ c. unfold lentTo checks setChecks filled value next setState groupOf in (search answering)))

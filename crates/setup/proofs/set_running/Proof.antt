@@ -13,5 +13,6 @@ put-in-block-requires c κs = (search admitted-size, search running-inside, sear
 pub set-running-spec : {M : Type 1} → statement M
 set-running-spec =
     tie.close
-    (tie.spec (λ c κs. search needs) (λ c. search needs) (λ c. search needs) (λ c. unfold lentTo lentBytes checks in (search answering)) (λ c. search needs)
-    (λ c. search needs) put-in-block-requires (λ c. search needs) (λ c. unfold lentTo checks filled value next in (search answering)))
+    (tie.spec (λ c κs. search needs) (λ c. search needs) (λ c. search needs) (λ c. unfold lentTo lentBytes checks in (search answering))
+    (λ c. search needs) (λ c. search needs) put-in-block-requires (λ c. search needs)
+    (λ c. unfold lentTo checks filled value next in (search answering)))

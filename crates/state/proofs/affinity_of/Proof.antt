@@ -7,6 +7,4 @@ returns : tie.Need-returns
 returns c = rw (c .before .block-at .ensures .0)
 
 pub affinity-of-spec : {M : Type 1} → statement M
-affinity-of-spec =
-    tie.close
-    (tie.spec (λ c κs. search needs) (λ c. search needs) (λ c. search needs) (λ c. search needs) returns)
+affinity-of-spec = tie.close (tie.spec (λ c κs. search needs) (λ c. search needs) (λ c. search needs) (λ c. search needs) returns)

@@ -33,6 +33,4 @@ returns-2 : tie.Need-returns-2
 returns-2 c = absent _ _ _ _ (c .before .before .wide .ensures) (c .before .first-with .ensures .0) (c .if1 .left)
 
 pub index-of-spec : {M : Type 1} → statement M
-index-of-spec =
-    tie.close
-    (tie.spec (λ c. search needs) (λ c κs. search needs) (λ c κs. search needs) returns returns-2)
+index-of-spec = tie.close (tie.spec (λ c. search needs) (λ c κs. search needs) (λ c κs. search needs) returns returns-2)

@@ -5,4 +5,6 @@ use Rattle.state.proofs.is_stopped.Statement.{statement}
 use Rattle.state.proofs.is_stopped.Tie as tie
 
 pub is-stopped-spec : {M : Type 1} → statement M
-is-stopped-spec = tie.close (tie.spec (λ c. search needs) (λ c κs. search needs) (λ c κs. search needs) (λ c. search needs) (λ c. unfold stopped in cc))
+is-stopped-spec =
+    tie.close
+    (tie.spec (λ c. search needs) (λ c κs. search needs) (λ c κs. search needs) (λ c. search needs) (λ c. unfold stopped in cc))

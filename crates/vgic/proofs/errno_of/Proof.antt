@@ -16,6 +16,7 @@ errno-of-spec =
     tie.close
     (tie.spec (λ c. search needs) (λ c. search needs) (λ c. search needs) (λ c. search needs) (λ c. search needs) (λ c. search needs)
     (λ c. search needs) (λ c. search needs) (λ c. search needs) (λ c. search needs) (λ c. search needs) (λ c. unfold errno in (search told))
-    (λ c. unfold errno in (search told)) (λ c. unfold errno in (search told)) (λ c. unfold errno in (search told)) (λ c. unfold errno in (search told))
-    (λ c. unfold errno in (search told)) (λ c. unfold errno in (search told)) (λ c. unfold errno in (search told)) (λ c. unfold errno in (search told))
-    (λ c. unfold errno in (search told)) (λ c. unfold errno in (search told)))
+    (λ c. unfold errno in (search told)) (λ c. unfold errno in (search told)) (λ c. unfold errno in (search told))
+    (λ c. unfold errno in (search told)) (λ c. unfold errno in (search told)) (λ c. unfold errno in (search told))
+    (λ c. unfold errno in (search told)) (λ c. unfold errno in (search told)) (λ c. unfold errno in (search told))
+    (λ c. unfold errno in (search told)))

@@ -26,6 +26,4 @@ unfolding rows
 returns-2 c = search in-view
 
 pub register-at-spec : {M : Type 1} → statement M
-register-at-spec =
-    tie.close
-    (tie.spec enum-told distributor-at-requires enum-told-2 frame-at-requires returns returns-2)
+register-at-spec = tie.close (tie.spec enum-told distributor-at-requires enum-told-2 frame-at-requires returns returns-2)
