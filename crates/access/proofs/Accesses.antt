@@ -1,6 +1,6 @@
 -- What a guest's access reads and writes, by its size and by what its offset decodes to.
 use Prim.Native.Nat.{ℕ, _*_, _%_, _/_, _^_, _<_}
-use mathlib.Core.Path.{_≡_, refl, sym, _∙_}
+use mathlib.Core.Path.{_≡_, refl, sym, ap, _∙_}
 use mathlib.Core.Bool.{Bool, true, false, cond, _&&_, true≢false}
 use mathlib.Core.List.{List, [], _∷_}
 use native.Mathlib.Omega.{arith}
@@ -9,16 +9,17 @@ use types.Run.{OneOf, miss}
 use denote.Enum.Declared.{tagOf}
 use Rattle.model.proofs.Register.{the-type}
 use lib.Dec.{eqb}
-use Rattle.model.specs.Layout.{mostVcpus, vcpus}
+use Rattle.model.specs.Layout.{mostVcpus, vcpus, running}
 use Rattle.model.specs.Sound.{sound}
-use Rattle.model.specs.Refusals.{firstFailing}
-use Rattle.model.specs.Calls.{frameChecks}
-use Rattle.model.specs.Registers.{decode, rows, banks, wordsOf, read, write, writePriority, Access, whole, one, none, access, byByte, readAccess, writeAccess, guestRead, guestWrite}
-use Rattle.model.specs.declared.Errno.the-variants.{Efault}
+use Rattle.model.specs.Refusals.{Check, firstFailing}
+use Rattle.model.specs.Calls.{isVcpu, guestChecks, frameChecks}
+use Rattle.model.specs.Registers.{decode, rows, banks, wordsOf, seenBy, read, write, writePriority, Access, whole, one, none, access, byByte, readAccess, writeAccess, guestRead, guestWrite}
+use Rattle.model.specs.declared.Errno.the-variants.{Eperm, Efault, Einval}
 use Rattle.model.specs.declared.Refusal.{Refusal}
-use Rattle.model.specs.declared.Refusal.the-variants.{None}
+use Rattle.model.specs.declared.Refusal.the-variants.{None, Refuse}
 use Rattle.model.specs.declared.By.the-variants.{Guest}
 use Rattle.model.specs.declared.View.{View}
+use Rattle.model.specs.declared.View.the-variants.{Frame}
 use Rattle.model.specs.declared.Register.{Register}
 use Rattle.model.specs.declared.Register.the-variants.{Fixed, Control, Typer, Iidr, Status, Bits, Priority, Config, Route, FrameTyper, FrameAffinity}
 use Rattle.model.specs.declared.Decoded.{Decoded}
@@ -27,7 +28,7 @@ use Rattle.model.proofs.Tests.{both}
 use Rattle.model.proofs.Decode.{decode-words}
 use Rattle.model.proofs.Soundness.{sound-vcpus}
 use Rattle.state.proofs.Admitted.{admitted}
-use Rattle.registers.specs.Words.{means}
+use Rattle.registers.specs.Words.{names}
 use Rattle.registers.specs.declared.Bytes.the-variants.{One}
 
 -- ---- IPRIORITYR alone takes one byte
@@ -141,15 +142,40 @@ module _ (s : List ℕ) (x : View) (off size : ℕ) (d : Decoded) (e : d ≡ dec
 
 -- ---- one byte of IPRIORITYR
 
-pub byte-put : (s t : List ℕ) (x : View) (k byte value w : ℕ) → t ≡ writePriority s x (means (One byte)) k w → w ≡ value % 256 % 256 * 2 ^ (8 * byte)
+pub byte-put : (s t : List ℕ) (x : View) (k byte value w : ℕ) → t ≡ writePriority s x (names (One byte)) k w → w ≡ value % 256 % 256 * 2 ^ (8 * byte)
     → t ≡ writePriority s x (λ i. eqb i byte) k (value % 256 * 2 ^ (8 * byte))
-unfolding means
+unfolding names
 byte-put s t x k byte value w e q = let r : value % 256 % 256 ≡ value % 256 = omega arith in rw (← r, ← q) e
 
 -- ---- the frame that a call names
 
-pub frame-inside : (s : List ℕ) (r : Refusal) (v f : ℕ) → r ≡ firstFailing ((sound s, Efault) ∷ frameChecks v f s) → r ≡ None → f < mostVcpus
-unfolding frameChecks
-frame-inside s r v f e n =
+pub frame-inside : (s : List ℕ) (r : Refusal) (v f : ℕ) (x : View) → r ≡ firstFailing ((sound s, Efault) ∷ frameChecks v f s) → r ≡ None → x ≡ Frame f → seenBy x < mostVcpus
+unfolding frameChecks seenBy
+frame-inside s r v f x e n q =
     let p = admitted s r (frameChecks v f s) e n in
-    omega (arith, ltb-true f (vcpus s) (p .1 .1 .1 .0), sound-vcpus s (p .0))
+    rw q (omega (arith, ltb-true f (vcpus s) (p .1 .1 .1 .0), sound-vcpus s (p .0)))
+
+pub frame-read : (s : List ℕ) (x : View) (f off size w : ℕ) → w ≡ guestRead s x off size → x ≡ Frame f → w ≡ guestRead s (Frame f) off size
+frame-read s x f off size w e q = rw (← q) e
+
+pub frame-written : (s t : List ℕ) (x : View) (f off size value : ℕ) → t ≡ guestWrite s x off size value → x ≡ Frame f → t ≡ guestWrite s (Frame f) off size value
+frame-written s t x f off size value e q = rw (← q) e
+
+-- ---- an access to the distributor, tested as one to the vCPU's own frame
+
+-- a test that stands twice
+twice : (c : Check) (cs : List Check) → firstFailing (c ∷ c ∷ cs) ≡ firstFailing (c ∷ cs)
+unfolding firstFailing
+twice c cs = step (c .0) refl
+  where
+    step : (t : Bool) → c .0 ≡ t → firstFailing (c ∷ c ∷ cs) ≡ firstFailing (c ∷ cs)
+    step true q = rw (q, firstFailing) (rw (q, firstFailing))
+    step false q = rw (q, firstFailing)
+
+after : (c : Check) (xs ys : List Check) → firstFailing xs ≡ firstFailing ys → firstFailing (c ∷ xs) ≡ firstFailing (c ∷ ys)
+unfolding firstFailing
+after c xs ys e = ap (λ (f : Refusal). elim (c .0) [ true ↦ f | false ↦ Refuse (c .1) ]) e
+
+pub own-frame : (s : List ℕ) (v : ℕ) (r : Refusal) → r ≡ firstFailing ((sound s, Efault) ∷ frameChecks v v s) → r ≡ firstFailing ((sound s, Efault) ∷ guestChecks v s)
+unfolding frameChecks guestChecks
+own-frame s v r e = e ∙ after _ _ _ (after _ _ _ (twice (isVcpu s v, Einval) ((eqb (running s v) 1, Eperm) ∷ [])))

@@ -14,6 +14,7 @@ use model::layout::LINE;
 use model::layout::VCPUS;
 use registers::Bytes;
 use registers::decode::register_at;
+use registers::frame_view;
 use registers::read_word;
 use registers::write_priority;
 use registers::write_word;
@@ -45,27 +46,7 @@ ghost use Rattle.access.specs.Lines.{risesIn, latchedIn, lineIn};
 
 // ---- refusals
 
-// 16 if not initialised; 22 no such vCPU; 1 not running.
-fn guest_refusal(s: &[u32], v: VcpuIndex) -> Refusal
-    ensures { λ r. ⌜ r ≡ firstFailing ((sound (now (s .entry)), Efault) ∷ guestChecks (v .0) (now (s .entry))) ⌝ }
-{
-    if !is_sound(s) {
-        return Refusal::Refuse(Errno::Efault);
-    }
-    if s[INITIALISED] != 1 {
-        return Refusal::Refuse(Errno::Ebusy);
-    }
-    let n = s[VCPUS] as usize;
-    if v.0 >= n {
-        return Refusal::Refuse(Errno::Einval);
-    }
-    if running_of(s, v) != 1 {
-        return Refusal::Refuse(Errno::Eperm);
-    }
-    Refusal::None
-}
-
-// 16 if not initialised; 22 no such vCPU or frame; 1 not running.
+// 14 not sound; 16 not initialised; 22 no such vCPU or frame; 1 not running.
 fn frame_refusal(s: &[u32], v: VcpuIndex, frame: VcpuIndex) -> Refusal
     ensures { λ r. ⌜ r ≡ firstFailing ((sound (now (s .entry)), Efault) ∷ frameChecks (v .0) (frame .0) (now (s .entry))) ⌝ }
 {
@@ -86,6 +67,13 @@ fn frame_refusal(s: &[u32], v: VcpuIndex, frame: VcpuIndex) -> Refusal
         return Refusal::Refuse(Errno::Eperm);
     }
     Refusal::None
+}
+
+// The same for the distributor: an access to it is tested as one to the vCPU's own frame.
+fn guest_refusal(s: &[u32], v: VcpuIndex) -> Refusal
+    ensures { λ r. ⌜ r ≡ firstFailing ((sound (now (s .entry)), Efault) ∷ guestChecks (v .0) (now (s .entry))) ⌝ }
+{
+    frame_refusal(s, v, v)
 }
 
 // ---- one access: 4 bytes aligned, or 1 byte in IPRIORITYR; all else reads 0 and ignores writes
@@ -189,7 +177,7 @@ pub fn read_frame(s: &[u32], v: VcpuIndex, frame: VcpuIndex, offset: u64, size: 
     if let Refusal::Refuse(e) = frame_refusal(s, v, frame) {
         return Answer::Refused(e);
     }
-    Answer::Value(guest_read(s, View::Frame(frame.0), offset, size))
+    Answer::Value(guest_read(s, frame_view(frame), offset, size))
 }
 
 // Writes a redistributor frame.
@@ -206,7 +194,7 @@ pub fn write_frame(
     if let Refusal::Refuse(e) = frame_refusal(s, v, frame) {
         return Answer::Refused(e);
     }
-    guest_write(s, View::Frame(frame.0), offset, size, value);
+    guest_write(s, frame_view(frame), offset, size, value);
     Answer::Value(0)
 }
 
@@ -223,7 +211,7 @@ fn has_line(s: &[u32], v: VcpuIndex, id: usize) -> bool
     is_spi(s, id)
 }
 
-// 16 if not initialised; 22 a missing index, or no PPI or SPI.
+// 14 not sound; 16 not initialised; 22 a missing index, or no PPI or SPI.
 fn line_refusal(s: &[u32], v: VcpuIndex, id: usize) -> Refusal
     ensures { λ r. ⌜ r ≡ firstFailing ((sound (now (s .entry)), Efault) ∷ (isInitialised (now (s .entry)), Ebusy) ∷ (hasLine (now (s .entry)) (v .0) id, Einval) ∷ []) ⌝ }
 {
@@ -268,7 +256,7 @@ fn put_line(bank: &mut [u32], i: u32, level: bool)
 }
 
 // A vCPU that sees the interrupt: `v` its private ones, an SPI any.
-fn seen_by(v: VcpuIndex, id: usize) -> VcpuIndex
+fn vcpu_for(v: VcpuIndex, id: usize) -> VcpuIndex
     ensures { λ r. ⌜ r .0 ≡ cond (isPrivate id) (v .0) 0 ⌝ }
 {
     if id < 32 { v } else { VcpuIndex(0) }
@@ -279,7 +267,7 @@ fn write_line(s: &mut [u32], v: VcpuIndex, id: usize, level: bool)
     requires { ⌜ (length (now s) ≡ stateLength) × (vcpus (now s) ≤ mostVcpus) × (hasLine (now s) (v .0) id ≡ true) ⌝ }
     ensures { λ _. ⌜ now (s .exit) ≡ lineChanged (now (s .entry)) (v .0) id level ⌝ }
 {
-    let at = bank_at(seen_by(v, id), id / 32);
+    let at = bank_at(vcpu_for(v, id), id / 32);
     put_line(&mut s[at..at + BANK_LENGTH], (id % 32) as u32, level);
 }
 

@@ -20,8 +20,8 @@ use Rattle.model.specs.declared.Register.the-variants.{Fixed, Control, Typer, I
 use Rattle.model.specs.declared.Decoded.{Decoded}
 use Rattle.model.specs.declared.Decoded.the-variants.{Listed, Unlisted}
 use Rattle.model.specs.declared.Item.the-variants.{Nameless}
-use Rattle.model.specs.declared.RegisterGroup.{RegisterGroup}
-use Rattle.model.specs.declared.RegisterGroup.the-variants.{Distributor, Redistributor, Interface, Lines}
+use Rattle.attributes.specs.declared.MappedGroup.{MappedGroup}
+use Rattle.attributes.specs.declared.MappedGroup.the-variants.{Distributor, Redistributor, Lines}
 use Rattle.model.proofs.Register.{the-type}
 use Rattle.model.proofs.Tests.{both}
 use Rattle.model.proofs.Decode.{decode-words}
@@ -29,23 +29,23 @@ use Rattle.state.specs.Lookup.{found}
 use Rattle.state.specs.declared.VcpuIndex.{VcpuIndex}
 use Rattle.state.specs.declared.Found.{Found}
 use Rattle.state.specs.declared.Found.the-variants.{At, Nowhere}
-use Rattle.attributes.specs.Names.{IsMapped, frameAt, placeOf, alignedAt, wordAt}
+use Rattle.attributes.specs.Names.{group, frameWith, placeOf, alignedAt, wordAt}
 use Rattle.attributes.specs.declared.Place.{Place}
 use Rattle.attributes.specs.declared.Place.the-variants.{In, NoVcpu}
 
 -- ---- the frame of an affinity
 
 module _ (s : List ℕ) (a : ℕ) (f : Found) (e : f ≡ found s a) where
-  pub frame-found : (v : VcpuIndex) → f ≡ At v → In (view.Frame (v .0)) ≡ frameAt s a
-  unfolding found frameAt
-  frame-found v h = step (isUsed s a) (sym h ∙ e)
+  pub frame-found : (v : VcpuIndex) (x : View) → f ≡ At v → x ≡ view.Frame (v .0) → In x ≡ frameWith s a
+  unfolding found frameWith
+  frame-found v x h w = rw w (step (isUsed s a) (sym h ∙ e))
     where
       step : (t : Bool) → At v ≡ cond t (At (record { 0 = indexOf s a })) Nowhere → In (view.Frame (v .0)) ≡ cond t (In (view.Frame (indexOf s a))) NoVcpu
       step true q = cc
       step false q = let z : _≡_ {A = ℕ} 0 1 = cc in absurd (omega arith)
 
-  pub frame-missing : f ≡ Nowhere → NoVcpu ≡ frameAt s a
-  unfolding found frameAt
+  pub frame-missing : f ≡ Nowhere → NoVcpu ≡ frameWith s a
+  unfolding found frameWith
   frame-missing h = step (isUsed s a) (sym h ∙ e)
     where
       step : (t : Bool) → Nowhere ≡ cond t (At (record { 0 = indexOf s a })) Nowhere → NoVcpu ≡ cond t (In (view.Frame (indexOf s a))) NoVcpu
@@ -55,7 +55,7 @@ module _ (s : List ℕ) (a : ℕ) (f : Found) (e : f ≡ found s a) where
 -- ---- group 7
 
 module _ (s : List ℕ) (a n : ℕ) (e : n ≡ low a) where
-  pub lines-private : (h : ℕ) (r : Place) → n < 32 → h ≡ high a → r ≡ frameAt s h → r ≡ placeOf Lines a s
+  pub lines-private : (h : ℕ) (r : Place) → n < 32 → h ≡ high a → r ≡ frameWith s h → r ≡ placeOf Lines a s
   unfolding placeOf
   lines-private h r l q p = rw (← e, lt-ltb n 32 l, ← q) p
 
@@ -89,16 +89,16 @@ takes-any FrameAffinity x h = refl
 
 -- ---- the place of a register, and its word there
 
-frame-in : (s : List ℕ) (h : ℕ) (x : View) → frameAt s h ≡ In x → (isUsed s h ≡ true) × (view.Frame (indexOf s h) ≡ x)
-unfolding frameAt
+frame-in : (s : List ℕ) (h : ℕ) (x : View) → frameWith s h ≡ In x → (isUsed s h ≡ true) × (view.Frame (indexOf s h) ≡ x)
+unfolding frameWith
 frame-in s h x e = step (isUsed s h) refl e
   where
     step : (t : Bool) → isUsed s h ≡ t → cond t (In (view.Frame (indexOf s h))) NoVcpu ≡ In x → (isUsed s h ≡ true) × (view.Frame (indexOf s h) ≡ x)
     step true q g = (q, cc)
     step false q g = let z : _≡_ {A = ℕ} 0 1 = cc in absurd (omega arith)
 
-frame-no : (s : List ℕ) (h : ℕ) → frameAt s h ≡ NoVcpu → isUsed s h ≡ false
-unfolding frameAt
+frame-no : (s : List ℕ) (h : ℕ) → frameWith s h ≡ NoVcpu → isUsed s h ≡ false
+unfolding frameWith
 frame-no s h e = step (isUsed s h) refl e
   where
     step : (t : Bool) → isUsed s h ≡ t → cond t (In (view.Frame (indexOf s h))) NoVcpu ≡ NoVcpu → isUsed s h ≡ false
@@ -121,11 +121,11 @@ aligned-words x n r k e = step (eqb (n % 4) 0) e
     step false g = let z : _≡_ {A = ℕ} 0 1 = cc in absurd (omega arith)
 
 -- the view x is where an attribute's register stands
-pub record Placed (q : RegisterGroup) (a : ℕ) (s : List ℕ) (x : View) : Type 0 where
-  pub is-known : affinityKnown q a s ≡ true
+pub record Placed (q : MappedGroup) (a : ℕ) (s : List ℕ) (x : View) : Type 0 where
+  pub is-known : affinityKnown (group q) a s ≡ true
   pub inside : vcpus s ≤ mostVcpus → seenBy x < mostVcpus
-  pub is-item : IsMapped q → item q a s ≡ mappedItem x (wordAt q x (low a))
-  pub is-word : numberOk q a ≡ true → (r : Register) (k : ℕ) → wordAt q x (low a) ≡ Listed r k → k < wordsOf x r
+  pub is-item : item (group q) a s ≡ mappedItem x (wordAt q x (low a))
+  pub is-word : numberOk (group q) a ≡ true → (r : Register) (k : ℕ) → wordAt q x (low a) ≡ Listed r k → k < wordsOf x r
 
 in-frame : (s : List ℕ) (h : ℕ) → isUsed s h ≡ true → vcpus s ≤ mostVcpus → seenBy (view.Frame (indexOf s h)) < mostVcpus
 unfolding seenBy
@@ -140,7 +140,7 @@ of-lines : (a : ℕ) (s : List ℕ) (x : View) → placeOf Lines a s ≡ In x �
 unfolding placeOf affinityKnown item wordAt mappedItem numberOk
 of-lines a s x e = step (ltb (low a) 32) refl e
   where
-    step : (t : Bool) → ltb (low a) 32 ≡ t → cond t (frameAt s (high a)) (In view.Distributor) ≡ In x → Placed Lines a s x
+    step : (t : Bool) → ltb (low a) 32 ≡ t → cond t (frameWith s (high a)) (In view.Distributor) ≡ In x → Placed Lines a s x
     step true q g =
         let f = frame-in s (high a) x g in
         let l : low a < 32 = ltb-true (low a) 32 q in
@@ -148,7 +148,7 @@ of-lines a s x e = step (ltb (low a) 32) refl e
         rw (← f .1) (record {
           is-known = rw (q, affinityKnown) (f .0);
           inside = in-frame s (high a) (f .0);
-          is-item = λ m. rw (q, z);
+          is-item = rw (q, z);
           is-word = λ n r k w. line-word (low a / 32) r k w (view.Frame (indexOf s (high a))) (rw z (unfold banks in (omega arith)));
         })
     step false q g =
@@ -156,50 +156,48 @@ of-lines a s x e = step (ltb (low a) 32) refl e
         rw (← y) (record {
           is-known = rw (q, affinityKnown);
           inside = λ few. unfold seenBy in (omega arith);
-          is-item = λ m. rw q;
+          is-item = rw q;
           is-word = λ n r k w. line-word (low a / 32) r k w view.Distributor (unfold banks in (omega (arith, eqb-true (low a / 1024) 0 (both (eqb (low a / 1024) 0) (eqb (low a % 1024 % 32) 0) n .0))));
         })
 
--- groups 5 and 6, which name a vCPU by its affinity
-of-frame : (a : ℕ) (s : List ℕ) (x : View) → frameAt s (high a) ≡ In x → Placed Redistributor a s x
+-- group 5
+of-frame : (a : ℕ) (s : List ℕ) (x : View) → frameWith s (high a) ≡ In x → Placed Redistributor a s x
 unfolding affinityKnown item wordAt
 of-frame a s x e =
     let f = frame-in s (high a) x e in
     rw (← f .1) (record {
       is-known = f .0;
       inside = in-frame s (high a) (f .0);
-      is-item = λ m. aligned-item (view.Frame (indexOf s (high a))) (low a);
+      is-item = aligned-item (view.Frame (indexOf s (high a))) (low a);
       is-word = λ n r k w. aligned-words (view.Frame (indexOf s (high a))) (low a) r k w;
     })
 
-pub placed : (q : RegisterGroup) (a : ℕ) (s : List ℕ) (x : View) → IsMapped q → placeOf q a s ≡ In x → Placed q a s x
+pub placed : (q : MappedGroup) (a : ℕ) (s : List ℕ) (x : View) → placeOf q a s ≡ In x → Placed q a s x
 unfolding placeOf affinityKnown item wordAt
-placed Distributor a s x m e =
+placed Distributor a s x e =
     let y : view.Distributor ≡ x = cc in
     rw (← y) (record {
       is-known = refl;
       inside = λ few. unfold seenBy in (omega arith);
-      is-item = λ m. aligned-item view.Distributor (low a);
+      is-item = aligned-item view.Distributor (low a);
       is-word = λ n r k w. aligned-words view.Distributor (low a) r k w;
     })
-placed Redistributor a s x m e = of-frame a s x e
-placed Lines a s x m e = of-lines a s x e
-placed Interface a s x m e = absurd m
+placed Redistributor a s x e = of-frame a s x e
+placed Lines a s x e = of-lines a s x e
 
 -- and where it stands nowhere
-pub unplaced : (q : RegisterGroup) (a : ℕ) (s : List ℕ) → placeOf q a s ≡ NoVcpu → affinityKnown q a s ≡ false
+pub unplaced : (q : MappedGroup) (a : ℕ) (s : List ℕ) → placeOf q a s ≡ NoVcpu → affinityKnown (group q) a s ≡ false
 unfolding placeOf affinityKnown
 unplaced Distributor a s e = let z : _≡_ {A = ℕ} 0 1 = cc in absurd (omega arith)
 unplaced Redistributor a s e = frame-no s (high a) e
-unplaced Interface a s e = frame-no s (high a) e
 unplaced Lines a s e = step (ltb (low a) 32) e
   where
-    step : (t : Bool) → cond t (frameAt s (high a)) (In view.Distributor) ≡ NoVcpu → cond t (isUsed s (high a)) true ≡ false
+    step : (t : Bool) → cond t (frameWith s (high a)) (In view.Distributor) ≡ NoVcpu → cond t (isUsed s (high a)) true ≡ false
     step true g = frame-no s (high a) g
     step false g = let z : _≡_ {A = ℕ} 0 1 = cc in absurd (omega arith)
 
 -- one or the other
-pub stands : (q : RegisterGroup) (a : ℕ) (s : List ℕ) → affinityKnown q a s ≡ true → (x : View) × (placeOf q a s ≡ In x)
+pub stands : (q : MappedGroup) (a : ℕ) (s : List ℕ) → affinityKnown (group q) a s ≡ true → (x : View) × (placeOf q a s ≡ In x)
 stands q a s t = step (placeOf q a s) refl
   where
     step : (p : Place) → placeOf q a s ≡ p → (x : View) × (placeOf q a s ≡ In x)

@@ -5,9 +5,9 @@ use model::Decoded;
 use model::Errno;
 use model::Flags;
 use model::Register;
-use model::RegisterGroup;
 use model::View;
 use registers::decode::register_at;
+use registers::frame_view;
 use registers::read_word;
 use registers::write_word;
 use state::Found;
@@ -25,8 +25,15 @@ ghost use Rattle.model.specs.Layout.{stateLength, mostVcpus, vcpus};
 ghost use Rattle.model.specs.Refusals.{number};
 ghost use Rattle.model.specs.Attributes.{high, low, numberOk, registerTakes};
 ghost use Rattle.model.specs.Calls.{Does, call, getAttribute, setAttribute};
-ghost use Rattle.model.specs.declared.RegisterGroup.the-variants.{Lines};
-ghost use Rattle.attributes.specs.Names.{groupNumber, IsMapped, frameAt, placeOf, alignedAt, wordAt, wordNamed};
+ghost use Rattle.attributes.specs.declared.MappedGroup.the-variants.{Lines};
+ghost use Rattle.attributes.specs.Names.{group, groupNumber, frameWith, placeOf, alignedAt, wordAt, wordNamed};
+
+// The attribute groups of memory-mapped registers, 1 and 5, and of lines, 7.
+pub enum MappedGroup {
+    Distributor,
+    Redistributor,
+    Lines,
+}
 
 // What an attribute names: a word of a register, or why it is refused.
 pub enum Named {
@@ -57,27 +64,26 @@ fn low_part(attribute: u64) -> u64
 }
 
 // Group 7: bits 31-10 are 0 and bits 9-0 a multiple of 32.
-fn number_ok(q: RegisterGroup, attribute: u64) -> bool
-    ensures { λ r. ⌜ r ≡ numberOk q attribute ⌝ }
+fn number_ok(q: MappedGroup, attribute: u64) -> bool
+    ensures { λ r. ⌜ r ≡ numberOk (group q) attribute ⌝ }
 {
     let number = low_part(attribute);
     match q {
-        RegisterGroup::Distributor => true,
-        RegisterGroup::Redistributor => true,
-        RegisterGroup::Interface => true,
-        RegisterGroup::Lines => (number / 1024 == 0) & (number % 1024 % 32 == 0),
+        MappedGroup::Distributor => true,
+        MappedGroup::Redistributor => true,
+        MappedGroup::Lines => (number / 1024 == 0) & (number % 1024 % 32 == 0),
     }
 }
 
 // ---- where a register stands
 
 // The frame of the vCPU that has an affinity.
-fn frame_at(s: &[u32], mpidr: Mpidr) -> Place
+fn frame_with(s: &[u32], mpidr: Mpidr) -> Place
     requires { ⌜ (length (now s) ≡ stateLength) × (vcpus (now s) ≤ mostVcpus) ⌝ }
-    ensures { λ r. ⌜ r ≡ frameAt (now (s .entry)) (mpidr .0) ⌝ }
+    ensures { λ r. ⌜ r ≡ frameWith (now (s .entry)) (mpidr .0) ⌝ }
 {
     match index_of(s, mpidr) {
-        Found::At(v) => Place::In(View::Frame(v.0)),
+        Found::At(v) => Place::In(frame_view(v)),
         Found::Nowhere => Place::NoVcpu,
     }
 }
@@ -88,21 +94,20 @@ fn lines_at(s: &[u32], attribute: u64) -> Place
     ensures { λ r. ⌜ r ≡ placeOf Lines attribute (now (s .entry)) ⌝ }
 {
     if low_part(attribute) < 32 {
-        return frame_at(s, high_part(attribute));
+        return frame_with(s, high_part(attribute));
     }
     Place::In(View::Distributor)
 }
 
 // Where an attribute's register stands.
-fn place_of(s: &[u32], q: RegisterGroup, attribute: u64) -> Place
+fn place_of(s: &[u32], q: MappedGroup, attribute: u64) -> Place
     requires { ⌜ (length (now s) ≡ stateLength) × (vcpus (now s) ≤ mostVcpus) ⌝ }
     ensures { λ r. ⌜ r ≡ placeOf q attribute (now (s .entry)) ⌝ }
 {
     match q {
-        RegisterGroup::Distributor => Place::In(View::Distributor),
-        RegisterGroup::Redistributor => frame_at(s, high_part(attribute)),
-        RegisterGroup::Interface => frame_at(s, high_part(attribute)),
-        RegisterGroup::Lines => lines_at(s, attribute),
+        MappedGroup::Distributor => Place::In(View::Distributor),
+        MappedGroup::Redistributor => frame_with(s, high_part(attribute)),
+        MappedGroup::Lines => lines_at(s, attribute),
     }
 }
 
@@ -119,25 +124,20 @@ fn aligned_at(view: View, number: u64) -> Decoded
 }
 
 // Group 7 has 32 lines a word.
-fn word_at(q: RegisterGroup, view: View, number: u64) -> Decoded
+fn word_at(q: MappedGroup, view: View, number: u64) -> Decoded
     ensures { λ r. ⌜ r ≡ wordAt q view number ⌝ }
 {
     match q {
-        RegisterGroup::Distributor => aligned_at(view, number),
-        RegisterGroup::Redistributor => aligned_at(view, number),
-        RegisterGroup::Interface => aligned_at(view, number),
-        RegisterGroup::Lines => Decoded::Listed(
-            Register::Bits(Flags::Lines),
-            (number / 32) as usize,
-        ),
+        MappedGroup::Distributor => aligned_at(view, number),
+        MappedGroup::Redistributor => aligned_at(view, number),
+        MappedGroup::Lines => Decoded::Listed(Register::Bits(Flags::Lines), (number / 32) as usize),
     }
 }
 
 // ---- what an attribute names
 
-// 22 bad number; 22 no such affinity; 16 not initialised or running; 6 unknown register.
-fn word_named(s: &[u32], q: RegisterGroup, attribute: u64) -> Named
-    requires { ⌜ IsMapped q ⌝ }
+// 14 not sound; 22 bad number; 22 no such affinity; 16 not initialised or running; 6 unknown register.
+fn word_named(s: &[u32], q: MappedGroup, attribute: u64) -> Named
     ensures { λ r. ⌜ r ≡ wordNamed q attribute (now (s .entry)) ⌝ }
 {
     if !is_sound(s) {
@@ -180,8 +180,7 @@ fn takes_value(register: Register, value: u64) -> bool
 // ---- the calls
 
 // Gets an attribute.
-pub fn get(s: &[u32], q: RegisterGroup, attribute: u64) -> Answer
-    requires { ⌜ IsMapped q ⌝ }
+pub fn get(s: &[u32], q: MappedGroup, attribute: u64) -> Answer
     ensures { λ r. ⌜ Does (call (getAttribute (groupNumber q) attribute) (now (s .entry))) (number r) (now (s .entry)) [] ⌝ }
 {
     match word_named(s, q, attribute) {
@@ -197,8 +196,7 @@ pub fn get(s: &[u32], q: RegisterGroup, attribute: u64) -> Answer
 }
 
 // Sets an attribute: 22 a bad value, after what a get is refused for.
-pub fn set(s: &mut [u32], q: RegisterGroup, attribute: u64, value: u64) -> Answer
-    requires { ⌜ IsMapped q ⌝ }
+pub fn set(s: &mut [u32], q: MappedGroup, attribute: u64, value: u64) -> Answer
     ensures { λ r. ⌜ Does (call (setAttribute (groupNumber q) attribute value) (now (s .entry))) (number r) (now (s .exit)) [] ⌝ }
 {
     match word_named(s, q, attribute) {

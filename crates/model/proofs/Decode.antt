@@ -266,25 +266,13 @@ pub decode-set-enable : (w : ℕ) → w < 32 → decode (rows Distributor) (0x10
 unfolding rows
 decode-set-enable w h = word-of Distributor 5 w (omega arith) (omega arith)
 
-pub decode-clear-enable : (w : ℕ) → w < 32 → decode (rows Distributor) (0x180 + 4 * w) ≡ Listed (Bits ClearEnable) w
-unfolding rows
-decode-clear-enable w h = word-of Distributor 6 w (omega arith) (omega arith)
-
 pub decode-set-pending : (w : ℕ) → w < 32 → decode (rows Distributor) (0x200 + 4 * w) ≡ Listed (Bits SetPending) w
 unfolding rows
 decode-set-pending w h = word-of Distributor 7 w (omega arith) (omega arith)
 
-pub decode-clear-pending : (w : ℕ) → w < 32 → decode (rows Distributor) (0x280 + 4 * w) ≡ Listed (Bits ClearPending) w
-unfolding rows
-decode-clear-pending w h = word-of Distributor 8 w (omega arith) (omega arith)
-
 pub decode-set-active : (w : ℕ) → w < 32 → decode (rows Distributor) (0x300 + 4 * w) ≡ Listed (Bits SetActive) w
 unfolding rows
 decode-set-active w h = word-of Distributor 9 w (omega arith) (omega arith)
-
-pub decode-clear-active : (w : ℕ) → w < 32 → decode (rows Distributor) (0x380 + 4 * w) ≡ Listed (Bits ClearActive) w
-unfolding rows
-decode-clear-active w h = word-of Distributor 10 w (omega arith) (omega arith)
 
 pub decode-priority : (w : ℕ) → w < 256 → decode (rows Distributor) (0x400 + 4 * w) ≡ Listed Priority w
 unfolding rows

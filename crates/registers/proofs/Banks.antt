@@ -26,7 +26,7 @@ use Rattle.words.specs.Words.{under, priorityUnder, collect}
 use Rattle.words.proofs.Operators.{bit-and}
 use Rattle.words.proofs.Pending.{pending-bit}
 use Rattle.state.proofs.Lending.{at-mid, one-stored}
-use Rattle.registers.specs.Words.{flagsMeant, prioritiesMeant, edgesMeant, shownIn, edgesUnder, means}
+use Rattle.registers.specs.Words.{flagsMeant, prioritiesMeant, edgesMeant, shownIn, edgesUnder, names}
 use Rattle.registers.specs.declared.Bytes.{Bytes}
 use Rattle.registers.proofs.Meant.{banks-most}
 
@@ -110,9 +110,9 @@ module _ (s last : List ℕ) (x : View) (at : ℕ) (size : length s ≡ stateLen
       (ap (set s (bank (seenBy x) k + field)) (gather-same 32 _ _ (λ i j. rw (q, bit-gather 32 (λ h. has s x (32 * k + h) && leb from (32 * k + h)) i j, flag-bit s (seenBy x) k field i j))))
 
   pub writes-priority : (bytes : Bytes) (k value b m : ℕ) → at ≡ bank (seenBy x) (k / 8) → at + 16 ≤ 768
-      → b ≡ gather 32 (λ i. means bytes (i / 8)) → m ≡ prioritiesMeant s x k
+      → b ≡ gather 32 (λ i. names bytes (i / 8)) → m ≡ prioritiesMeant s x k
       → last ≡ set (midOf at (at + 16 - at) s) (5 + k % 8) (priorityUnder (word (midOf at (at + 16 - at) s) (5 + k % 8)) value (bitAnd b m))
-      → putMid at (at + 16 - at) s last ≡ writePriority s x (means bytes) k value
+      → putMid at (at + 16 - at) s last ≡ writePriority s x (names bytes) k value
   unfolding prioritiesMeant writePriority priorityUnder
   writes-priority bytes k value b m e n q r p =
       rw (one-stored at (at + 16) s last (5 + k % 8) _ (omega arith) (omega arith) p, at-mid at (at + 16 - at) s (5 + k % 8) (omega arith), e)
@@ -120,8 +120,8 @@ module _ (s last : List ℕ) (x : View) (at : ℕ) (size : length s ≡ stateLen
     where
       at-bit : (i : ℕ) → i < 32
           → cond (bit (bitAnd b m) i) (leb 3 (i % 8) && bit value i) (bit (word s (bank (seenBy x) (k / 8) + 5 + k % 8)) i)
-          ≡ cond (means bytes (i / 8) && has s x (4 * k + i / 8)) (leb 3 (i % 8) && bit value i) (bit (priority s (seenBy x) (4 * k + i / 8)) (i % 8))
-      at-bit i l = rw (bit-and b m i, q, r, bit-gather 32 (λ j. means bytes (j / 8)) i l, bit-gather 32 (λ j. has s x (4 * k + j / 8)) i l, of-four s (seenBy x) k i l)
+          ≡ cond (names bytes (i / 8) && has s x (4 * k + i / 8)) (leb 3 (i % 8) && bit value i) (bit (priority s (seenBy x) (4 * k + i / 8)) (i % 8))
+      at-bit i l = rw (bit-and b m i, q, r, bit-gather 32 (λ j. names bytes (j / 8)) i l, bit-gather 32 (λ j. has s x (4 * k + j / 8)) i l, of-four s (seenBy x) k i l)
 
   pub writes-config : (k value m w : ℕ) → at ≡ bank (seenBy x) (k / 2) → at + 16 ≤ 768 → m ≡ edgesMeant s x k → w ≡ collect value
       → last ≡ set (midOf at (at + 16 - at) s) (13 + k % 2) (edgesUnder (word (midOf at (at + 16 - at) s) (13 + k % 2)) w m)

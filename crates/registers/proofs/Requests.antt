@@ -18,7 +18,7 @@ use Rattle.model.specs.declared.Register.{Register}
 use Rattle.model.specs.declared.Register.the-variants.{Status, Bits, Priority, Config, Route, FrameTyper, FrameAffinity}
 use Rattle.model.proofs.Soundness.{sound-length, sound-count}
 use Rattle.model.proofs.Masks.{sound-enables}
-use Rattle.registers.specs.Words.{means}
+use Rattle.registers.specs.Words.{names}
 use Rattle.registers.specs.declared.Bytes.the-variants.{All}
 use Rattle.registers.proofs.Banks.{view-inside}
 
@@ -75,8 +75,8 @@ module _ (by : By) (s : List ℕ) (x : View) (r : Register) (k : ℕ) where
   unfolding read
   reads-affinity v w e q h = rw (h, q, e)
 
-  pub writes-whole : (value : ℕ) (t : List ℕ) → t ≡ writePriority s x (means All) k value → r ≡ Priority → t ≡ write by s x r k value
-  unfolding write means
+  pub writes-whole : (value : ℕ) (t : List ℕ) → t ≡ writePriority s x (names All) k value → r ≡ Priority → t ≡ write by s x r k value
+  unfolding write names
   writes-whole value t e h = rw h e
 
 pub writes-as : (by : By) (s : List ℕ) (x : View) (r q : Register) (k value : ℕ) (t : List ℕ) → r ≡ q → t ≡ write by s x q k value → t ≡ write by s x r k value

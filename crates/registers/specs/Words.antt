@@ -46,10 +46,10 @@ shownIn Pending k b = pendingIn b
 unfoldable pub edgesUnder : ℕ → ℕ → ℕ → ℕ
 edgesUnder w e m = gather 16 (λ i. cond (bit m i) (bit e i) (bit w i))
 
--- ---- the bytes of a word that an access means
-unfoldable pub means : Bytes → ℕ → Bool
-means All j = true
-means (One b) j = eqb j b
+-- ---- the bytes of a word that an access names
+unfoldable pub names : Bytes → ℕ → Bool
+names All j = true
+names (One b) j = eqb j b
 
 -- one of the four
 abbrev pub Byte : Bytes → Type 0

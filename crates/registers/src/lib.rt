@@ -41,16 +41,24 @@ ghost use Rattle.model.specs.Words.{gather};
 ghost use Rattle.model.specs.Layout.{stateLength, mostVcpus, word, count, bank};
 ghost use Rattle.model.specs.Sound.{sound};
 ghost use Rattle.model.specs.Registers.{banks, wordsOf, flags, shownTo, ruleFor, has, seenBy, readFlags, readPriority, readConfig, readRoute, statusAt, frameTyper, read, writeFlags, writePriority, writeConfig, writeRoute, writtenStatus, write};
+ghost use Rattle.model.specs.declared.View.the-variants.{Frame};
 ghost use Rattle.words.specs.Words.{under, priorityUnder};
-ghost use Rattle.registers.specs.Words.{flagsMeant, prioritiesMeant, edgesMeant, theirs, shownIn, edgesUnder, means, Byte};
+ghost use Rattle.registers.specs.Words.{flagsMeant, prioritiesMeant, edgesMeant, theirs, shownIn, edgesUnder, names, Byte};
 
-// The bytes of a word that an access means.
+// The bytes of a word that an access names.
 pub enum Bytes {
     All,
     One(u32),
 }
 
 // ---- which interrupts a view has
+
+// The view of a vCPU's frame; here and in `seen_by` alone an index and a view are turned into each other.
+pub fn frame_view(v: VcpuIndex) -> View
+    ensures { λ r. ⌜ r ≡ Frame (v .0) ⌝ }
+{
+    View::Frame(v.0)
+}
 
 // The vCPU whose private interrupts a view has.
 fn seen_by(view: View) -> VcpuIndex
@@ -259,10 +267,10 @@ fn read_priority(s: &[u32], view: View, k: usize) -> u32
     s[at + PRIORITIES + k % 8] & priorities_meant(s, view, k)
 }
 
-// The mask of the bytes that an access means.
-fn bytes_meant(bytes: Bytes) -> u32
+// The mask of the bytes that an access names.
+fn bytes_named(bytes: Bytes) -> u32
     requires { ⌜ Byte bytes ⌝ }
-    ensures { λ r. ⌜ r ≡ gather 32 (λ i. means bytes (i / 8)) ⌝ }
+    ensures { λ r. ⌜ r ≡ gather 32 (λ i. names bytes (i / 8)) ⌝ }
 {
     match bytes {
         Bytes::All => 0xffff_ffff,
@@ -281,9 +289,9 @@ fn put_priorities(bank: &mut [u32], k: usize, x: u32, m: u32)
 // Writes bytes of word `k` of IPRIORITYR.
 pub fn write_priority(s: &mut [u32], view: View, bytes: Bytes, k: usize, x: u32)
     requires { ⌜ (length (now s) ≡ stateLength) × (count (now s) % 32 ≡ 0) × (seenBy view < mostVcpus) × (k < 8 * banks view) × Byte bytes ⌝ }
-    ensures { λ _. ⌜ now (s .exit) ≡ writePriority (now (s .entry)) view (means bytes) k x ⌝ }
+    ensures { λ _. ⌜ now (s .exit) ≡ writePriority (now (s .entry)) view (names bytes) k x ⌝ }
 {
-    let m = bytes_meant(bytes) & priorities_meant(s, view, k);
+    let m = bytes_named(bytes) & priorities_meant(s, view, k);
     let at = bank_of(view, k / 8);
     put_priorities(&mut s[at..at + BANK_LENGTH], PRIORITIES + k % 8, x, m);
 }

@@ -1,7 +1,7 @@
 // The public calls. Each takes any numbers and any lent words, and promises the answer and the words of its case of `call`.
+use attributes::MappedGroup;
 use model::Answer;
 use model::Errno;
-use model::RegisterGroup;
 use state::Mpidr;
 use state::VcpuIndex;
 ghost use mathlib.Core.Path.{_≡_};
@@ -143,40 +143,40 @@ pub fn change_line(state: &mut [u32], v: VcpuIndex, id: usize, level: bool) -> i
 pub fn get_distributor(state: &[u32], attribute: u64) -> i64
     ensures { λ r. ⌜ Does (call (getAttribute 1 attribute) (now (state .entry))) r (now (state .entry)) [] ⌝ }
 {
-    number_of(attributes::get(state, RegisterGroup::Distributor, attribute))
+    number_of(attributes::get(state, MappedGroup::Distributor, attribute))
 }
 
 // Attribute group 1: sets a word of the distributor.
 pub fn set_distributor(state: &mut [u32], attribute: u64, value: u64) -> i64
     ensures { λ r. ⌜ Does (call (setAttribute 1 attribute value) (now (state .entry))) r (now (state .exit)) [] ⌝ }
 {
-    number_of(attributes::set(state, RegisterGroup::Distributor, attribute, value))
+    number_of(attributes::set(state, MappedGroup::Distributor, attribute, value))
 }
 
 // Attribute group 5: gets a word of a redistributor frame.
 pub fn get_redistributor(state: &[u32], attribute: u64) -> i64
     ensures { λ r. ⌜ Does (call (getAttribute 5 attribute) (now (state .entry))) r (now (state .entry)) [] ⌝ }
 {
-    number_of(attributes::get(state, RegisterGroup::Redistributor, attribute))
+    number_of(attributes::get(state, MappedGroup::Redistributor, attribute))
 }
 
 // Attribute group 5: sets a word of a redistributor frame.
 pub fn set_redistributor(state: &mut [u32], attribute: u64, value: u64) -> i64
     ensures { λ r. ⌜ Does (call (setAttribute 5 attribute value) (now (state .entry))) r (now (state .exit)) [] ⌝ }
 {
-    number_of(attributes::set(state, RegisterGroup::Redistributor, attribute, value))
+    number_of(attributes::set(state, MappedGroup::Redistributor, attribute, value))
 }
 
 // Attribute group 7: gets the lines of 32 interrupts.
 pub fn get_lines(state: &[u32], attribute: u64) -> i64
     ensures { λ r. ⌜ Does (call (getAttribute 7 attribute) (now (state .entry))) r (now (state .entry)) [] ⌝ }
 {
-    number_of(attributes::get(state, RegisterGroup::Lines, attribute))
+    number_of(attributes::get(state, MappedGroup::Lines, attribute))
 }
 
 // Attribute group 7: sets the lines of 32 interrupts, latching nothing.
 pub fn set_lines(state: &mut [u32], attribute: u64, value: u64) -> i64
     ensures { λ r. ⌜ Does (call (setAttribute 7 attribute value) (now (state .entry))) r (now (state .exit)) [] ⌝ }
 {
-    number_of(attributes::set(state, RegisterGroup::Lines, attribute, value))
+    number_of(attributes::set(state, MappedGroup::Lines, attribute, value))
 }

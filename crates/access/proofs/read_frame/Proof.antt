@@ -1,8 +1,7 @@
 -- `access::read_frame` meets its contract.
-use Rattle.model.specs.Registers.{seenBy}
 use Rattle.model.specs.Calls.{lentTo, lentBytes, filled, checks, value, next}
 use Rattle.state.proofs.Admitted.{answering, admitted-sound}
-use Rattle.access.proofs.Accesses.{frame-inside}
+use Rattle.access.proofs.Accesses.{frame-inside, frame-read}
 use borrow.Author.Needs.{needs}
 use Rattle.access.proofs.read_frame.Statement.{statement}
 use Rattle.access.proofs.read_frame.Tie as tie
@@ -11,4 +10,5 @@ pub read-frame-spec : {M : Type 1} → statement M
 read-frame-spec =
     tie.close
     (tie.spec (λ c κs. search needs) (λ c. search needs) (λ c. unfold lentTo lentBytes checks in (search answering)) (λ c. search needs)
-    (λ c κs. unfold seenBy in (search (admitted-sound, frame-inside))) (λ c. unfold lentTo filled checks value next in (search answering)))
+    (λ c κs. search needs) (λ c κs. search (admitted-sound, frame-inside))
+    (λ c. unfold lentTo filled checks value next in (search (answering, frame-read))))

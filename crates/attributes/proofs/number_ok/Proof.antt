@@ -7,5 +7,5 @@ use Rattle.attributes.proofs.number_ok.Tie as tie
 pub number-ok-spec : {M : Type 1} → statement M
 number-ok-spec =
     tie.close
-    (tie.spec (λ c κs. search needs) (λ c. search needs) (λ c. search needs) (λ c. search needs) (λ c. search needs)
-    (λ c. unfold numberOk in cc) (λ c. unfold numberOk in cc) (λ c. unfold numberOk in cc) (λ c. unfold numberOk in cc))
+    (tie.spec (λ c κs. search needs) (λ c. search needs) (λ c. search needs) (λ c. search needs) (λ c. unfold numberOk in cc)
+    (λ c. unfold numberOk in cc) (λ c. unfold numberOk in cc))

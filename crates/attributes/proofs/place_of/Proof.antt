@@ -8,5 +8,4 @@ pub place-of-spec : {M : Type 1} → statement M
 place-of-spec =
     tie.close
     (tie.spec (λ c. search needs) (λ c. search needs) (λ c κs. search needs) (λ c κs. search needs) (λ c. search needs)
-    (λ c κs. search needs) (λ c κs. search needs) (λ c. search needs) (λ c κs. search needs) (λ c. unfold placeOf in cc)
-    (λ c. unfold placeOf in cc) (λ c. unfold placeOf in cc) (λ c. unfold placeOf in cc))
+    (λ c κs. search needs) (λ c. unfold placeOf in cc) (λ c. unfold placeOf in cc) (λ c. unfold placeOf in cc))

@@ -9,6 +9,7 @@ pub set-spec : {M : Type 1} → statement M
 set-spec =
     tie.close
     (tie.spec (λ c κs. search needs) (λ c. search needs) (λ c. search needs) (λ c κs. search needs) (λ c. search needs)
-    (λ c. unfold lentTo lentBytes in (search named)) (λ c. search value-fits) (λ c κs. search (named-sound, named-view, named-words))
-    (λ c. search needs) (λ c. unfold lentTo lentBytes filled value in (search named)) (λ c. search needs)
+    (λ c. unfold lentTo lentBytes filled value in (search named)) (λ c. search value-fits)
+    (λ c κs. search (named-sound, named-view, named-words)) (λ c. search needs)
+    (λ c. unfold lentTo lentBytes filled value in (search named)) (λ c. search needs)
     (λ c. unfold lentTo lentBytes filled value in (search named)))

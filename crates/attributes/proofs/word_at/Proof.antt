@@ -8,5 +8,4 @@ pub word-at-spec : {M : Type 1} → statement M
 word-at-spec =
     tie.close
     (tie.spec (λ c. search needs) (λ c κs. search needs) (λ c. search needs) (λ c κs. search needs) (λ c. search needs)
-    (λ c κs. search needs) (λ c. search needs) (λ c. unfold wordAt in cc) (λ c. unfold wordAt in cc) (λ c. unfold wordAt in cc)
-    (λ c. unfold wordAt in cc))
+    (λ c. unfold wordAt in cc) (λ c. unfold wordAt in cc) (λ c. unfold wordAt in cc))
