@@ -367,7 +367,7 @@ fn status_at(view: View) -> usize
 {
     match view {
         View::Distributor => STATUS,
-        View::Frame(v) => block_at(VcpuIndex(v)) + FRAME_STATUS,
+        View::Frame(_) => block_at(seen_by(view)) + FRAME_STATUS,
     }
 }
 
