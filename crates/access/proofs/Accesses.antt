@@ -1,6 +1,6 @@
 -- What a guest's access reads and writes, by its size and by what its offset decodes to.
 use Prim.Native.Nat.{ℕ, _*_, _%_, _/_, _^_, _<_}
-use mathlib.Core.Path.{_≡_, refl, sym, ap, _∙_}
+use mathlib.Core.Path.{_≡_, refl, sym, _∙_}
 use mathlib.Core.Bool.{Bool, true, false, cond, _&&_, true≢false}
 use mathlib.Core.List.{List, [], _∷_}
 use native.Mathlib.Omega.{arith}
@@ -11,12 +11,12 @@ use Rattle.model.proofs.Register.{the-type}
 use lib.Dec.{eqb}
 use Rattle.model.specs.Layout.{mostVcpus, vcpus, running}
 use Rattle.model.specs.Sound.{sound}
-use Rattle.model.specs.Refusals.{Check, firstFailing}
+use Rattle.model.specs.Refusals.{firstFailing}
 use Rattle.model.specs.Calls.{isVcpu, guestChecks, frameChecks}
 use Rattle.model.specs.Registers.{decode, rows, banks, wordsOf, seenBy, read, write, writePriority, Access, whole, one, none, access, byByte, readAccess, writeAccess, guestRead, guestWrite}
 use Rattle.model.specs.declared.Errno.the-variants.{Eperm, Efault, Einval}
 use Rattle.model.specs.declared.Refusal.{Refusal}
-use Rattle.model.specs.declared.Refusal.the-variants.{None, Refuse}
+use Rattle.model.specs.declared.Refusal.the-variants.{None}
 use Rattle.model.specs.declared.By.the-variants.{Guest}
 use Rattle.model.specs.declared.View.{View}
 use Rattle.model.specs.declared.View.the-variants.{Frame}
@@ -25,6 +25,7 @@ use Rattle.model.specs.declared.Register.the-variants.{Fixed, Control, Typer, I
 use Rattle.model.specs.declared.Decoded.{Decoded}
 use Rattle.model.specs.declared.Decoded.the-variants.{Listed, Unlisted}
 use Rattle.model.proofs.Tests.{both}
+use Rattle.model.proofs.Refused.{twice, after}
 use Rattle.model.proofs.Decode.{decode-words}
 use Rattle.model.proofs.Soundness.{sound-vcpus}
 use Rattle.state.proofs.Admitted.{admitted}
@@ -162,19 +163,6 @@ pub frame-written : (s t : List ℕ) (x : View) (f off size value : ℕ) → t �
 frame-written s t x f off size value e q = rw (← q) e
 
 -- ---- an access to the distributor, tested as one to the vCPU's own frame
-
--- a test that stands twice
-twice : (c : Check) (cs : List Check) → firstFailing (c ∷ c ∷ cs) ≡ firstFailing (c ∷ cs)
-unfolding firstFailing
-twice c cs = step (c .0) refl
-  where
-    step : (t : Bool) → c .0 ≡ t → firstFailing (c ∷ c ∷ cs) ≡ firstFailing (c ∷ cs)
-    step true q = rw (q, firstFailing) (rw (q, firstFailing))
-    step false q = rw (q, firstFailing)
-
-after : (c : Check) (xs ys : List Check) → firstFailing xs ≡ firstFailing ys → firstFailing (c ∷ xs) ≡ firstFailing (c ∷ ys)
-unfolding firstFailing
-after c xs ys e = ap (λ (f : Refusal). elim (c .0) [ true ↦ f | false ↦ Refuse (c .1) ]) e
 
 pub own-frame : (s : List ℕ) (v : ℕ) (r : Refusal) → r ≡ firstFailing ((sound s, Efault) ∷ frameChecks v v s) → r ≡ firstFailing ((sound s, Efault) ∷ guestChecks v s)
 unfolding frameChecks guestChecks

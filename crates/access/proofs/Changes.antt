@@ -1,5 +1,5 @@
 -- A line change: which interrupts have a line, and the change within the lent bank as a change of the state.
-use Prim.Native.Nat.{ℕ, zero, suc, _+_, _-_, _/_, _%_, _≤_, _<_, min}
+use Prim.Native.Nat.{ℕ, zero, suc, _+_, _-_, _/_, _%_, _≤_, _<_}
 use mathlib.Core.Path.{_≡_, refl, sym, ap, _∙_}
 use mathlib.Core.Bool.{Bool, true, false, not, cond, _&&_}
 use mathlib.Core.List.{List, [], _∷_}
@@ -7,13 +7,13 @@ use mathlib.Core.Logic.{_⊎_, inl, inr, ⊎-elim}
 use native.Mathlib.Decide.{decLt}
 use native.Mathlib.Nat.{add-assoc}
 use native.Mathlib.Omega.{arith}
-use borrow.Author.Tests.{lt-ltb, le-ltb, ltb-true, leb-true}
+use borrow.Author.Tests.{lt-ltb, le-ltb, ltb-true}
 use borrow.Rule.Slice.PartMut.{midOf, putMid}
 use lib.Dec.{leb, ltb}
 use lib.ListN.{length, set}
 use lib.Seq.{getD-set-other}
 use Rattle.model.specs.Words.{withBit}
-use Rattle.model.specs.Layout.{stateLength, mostVcpus, word, isInitialised, count, vcpus, bank}
+use Rattle.model.specs.Layout.{stateLength, mostVcpus, word, isInitialised, vcpus, bank}
 use Rattle.model.specs.Interrupts.{isPrivate, isPpi, isSpi, setFlag}
 use Rattle.model.specs.Sound.{sound}
 use Rattle.model.specs.Refusals.{firstFailing}
@@ -23,6 +23,7 @@ use Rattle.model.specs.declared.Errno.the-variants.{Efault, Ebusy, Einval}
 use Rattle.model.specs.declared.Refusal.{Refusal}
 use Rattle.model.specs.declared.Refusal.the-variants.{None}
 use Rattle.model.proofs.Tests.{both}
+use Rattle.model.proofs.Fields.{spi-within}
 use Rattle.state.proofs.Admitted.{admitted}
 use Rattle.state.proofs.Lending.{stores, further, lent, at-mid}
 use Rattle.access.specs.Lines.{risesIn, latchedIn, lineIn}
@@ -51,16 +52,13 @@ module _ (s : List ℕ) (v id : ℕ) where
 
   -- a PPI of a vCPU that is there, or an SPI
   line-place : hasLine s v id ≡ true → ((id < 32) × (v < vcpus s)) ⊎ ((32 ≤ id) × (id < 1020))
-  unfolding hasLine isPpi isSpi
+  unfolding hasLine isPpi
   line-place h = step (leb 16 id && ltb id 32) refl h
     where
-      step : (t : Bool) → (leb 16 id && ltb id 32) ≡ t → cond t (ltb v (vcpus s)) (leb 32 id && ltb id (min (count s) 1020)) ≡ true
+      step : (t : Bool) → (leb 16 id && ltb id 32) ≡ t → cond t (ltb v (vcpus s)) (isSpi s id) ≡ true
           → ((id < 32) × (v < vcpus s)) ⊎ ((32 ≤ id) × (id < 1020))
       step true q g = inl (ltb-true id 32 (both (leb 16 id) (ltb id 32) q .1), ltb-true v (vcpus s) g)
-      step false q g =
-          let p = both (leb 32 id) (ltb id (min (count s) 1020)) g in
-          let m : id < min (count s) 1020 = ltb-true id (min (count s) 1020) (p .1) in
-          inr (leb-true 32 id (p .0), omega arith)
+      step false q g = let p = spi-within s id g in inr (p .0, omega arith)
 
   pub seen-inside : (u : ℕ) → u ≡ cond (isPrivate id) v 0 → vcpus s ≤ mostVcpus → hasLine s v id ≡ true → u < mostVcpus
   seen-inside u e few h = ⊎-elim (λ p. omega (arith, e ∙ sym (own-seen v id (p .0)), p .1)) (λ p. omega (arith, e ∙ sym (any-seen v id (p .0)))) (line-place h)

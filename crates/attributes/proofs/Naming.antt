@@ -32,7 +32,7 @@ use Rattle.attributes.specs.declared.MappedGroup.the-variants.{Distribut
 use Rattle.model.specs.declared.AttributeGroup.the-variants.{Registers}
 use Rattle.model.proofs.Tests.{both}
 use Rattle.model.proofs.Soundness.{sound-vcpus}
-use Rattle.model.proofs.Refused.{Passed, passed, Fails, none-of, fails, holds, fails-first, refusal-list, told-no, told-yes, refuses, grants}
+use Rattle.model.proofs.Refused.{none-then, fails-then, Passed, passed, Fails, none-of, fails, holds, fails-first, refusal-list, told-no, told-yes, refuses, grants}
 use Rattle.attributes.specs.Names.{group, groupNumber, placeOf, wordAt, namedBy, wordNamed}
 use Rattle.attributes.specs.declared.Place.{Place}
 use Rattle.attributes.specs.declared.Place.the-variants.{In, NoVcpu}
@@ -47,26 +47,6 @@ unfolding groupOf groupNumber
 group-of Distributor = refl
 group-of Redistributor = refl
 group-of Lines = refl
-
-none-then : (xs ys : List Check) → firstFailing xs ≡ None → firstFailing (xs ++ ys) ≡ firstFailing ys
-unfolding firstFailing
-none-then [] ys e = refl
-none-then (x ∷ xs) ys e = step (x .0) (none-then xs ys) e
-  where
-    step : (b : Bool) → (firstFailing xs ≡ None → firstFailing (xs ++ ys) ≡ firstFailing ys) → elim b [ true ↦ firstFailing xs | false ↦ Refuse (x .1) ] ≡ None
-        → elim b [ true ↦ firstFailing (xs ++ ys) | false ↦ Refuse (x .1) ] ≡ firstFailing ys
-    step true ih h = ih h
-    step false ih h = let z : _≡_ {A = ℕ} 0 1 = cc in absurd (omega arith)
-
-fails-then : (xs ys : List Check) (e : Errno) → firstFailing xs ≡ Refuse e → firstFailing (xs ++ ys) ≡ Refuse e
-unfolding firstFailing
-fails-then [] ys e h = let z : _≡_ {A = ℕ} 0 1 = cc in absurd (omega arith)
-fails-then (x ∷ xs) ys e h = step (x .0) (fails-then xs ys e) h
-  where
-    step : (b : Bool) → (firstFailing xs ≡ Refuse e → firstFailing (xs ++ ys) ≡ Refuse e) → elim b [ true ↦ firstFailing xs | false ↦ Refuse (x .1) ] ≡ Refuse e
-        → elim b [ true ↦ firstFailing (xs ++ ys) | false ↦ Refuse (x .1) ] ≡ Refuse e
-    step true ih g = ih g
-    step false ih g = g
 
 module _ (q : MappedGroup) (a : ℕ) (s : List ℕ) where
   abbrev tested : List Check

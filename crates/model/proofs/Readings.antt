@@ -1,7 +1,7 @@
 -- What each register reads by attribute, as the one word of the state that it shows: in a sound, initialised device.
 use Prim.Native.Nat.{ℕ, _+_, _*_, _-_, _/_, _%_, _^_, _≤_, _<_, min}
 use mathlib.Core.Path.{_≡_, refl, ap, _∙_}
-use mathlib.Core.Bool.{Bool, true, false, not, _&&_}
+use mathlib.Core.Bool.{Bool, true, not, _&&_, and-assoc}
 use mathlib.Core.List.{List}
 use native.Mathlib.Decide.{decLt}
 use native.Mathlib.Omega.{arith}
@@ -20,19 +20,14 @@ use Rattle.model.proofs.Bits.{gather-same, bit-below, gather-passed}
 use Rattle.model.proofs.Tests.{and-true, and-implied, not-both, below-at}
 use Rattle.model.proofs.Within.{bit-none, fits-bit}
 use Rattle.model.proofs.Soundness.{Ready}
-use Rattle.model.proofs.Fields.{bank-at, flag-bit, priority-bit, edge-bit}
+use Rattle.model.proofs.Fields.{within-spi, bank-at, flag-bit, priority-bit, edge-bit}
 use Rattle.model.proofs.Masks.{SpiWord, fits-word, block-word, bank-bit}
-
-and-assoc : (a b c : Bool) → (a && b && c) ≡ (a && (b && c))
-and-assoc true b c = refl
-and-assoc false b c = refl
 
 -- ---- the interrupts of a bank: where a word of it has a bit, the interrupt exists
 
 module _ (s : List ℕ) (h : Ready s) where
   pub is-spi : (id : ℕ) → 32 ≤ id → id < count s → id < 1020 → isSpi s id ≡ true
-  unfolding isSpi
-  is-spi id a b c = and-true (le-leb 32 id a) (lt-ltb id (min (count s) 1020) (omega arith))
+  is-spi id a b c = within-spi s id a (omega arith)
 
   -- a flag
   pub flag-exists : (w k i : ℕ) → SpiWord s w → k < 5 → i < 32 → bit (word s (256 + 16 * w + k)) i ≡ true → isSpi s (32 * w + i) ≡ true

@@ -2,7 +2,7 @@
 use Prim.Native.Nat.{ℕ, zero, suc, _-_, _<_}
 use mathlib.Core.Path.{_≡_, refl, sym, ap, _∙_}
 use mathlib.Core.Bool.{Bool, true, false, not}
-use mathlib.Core.List.{List, [], _∷_}
+use mathlib.Core.List.{List, [], _∷_, _++_}
 use mathlib.Core.Logic.{_⊎_, inl, inr, _↔_}
 use native.Mathlib.Omega.{arith}
 use borrow.Author.Tests.{eq-eqb, ne-eqb, lt-ltb, le-ltb, le-leb, lt-leb, not-true, not-false}
@@ -44,6 +44,40 @@ pub fails-first : {cs : List Check} {n : Errno} → Fails cs n → firstFailing 
 unfolding firstFailing
 fails-first (fails e) = rw (e, firstFailing)
 fails-first (holds e h) = rw (e, firstFailing) (fails-first h)
+
+-- tests in front of others: where none fails the others decide, and a failing one stays
+pub none-then : (xs ys : List Check) → firstFailing xs ≡ None → firstFailing (xs ++ ys) ≡ firstFailing ys
+unfolding firstFailing
+none-then [] ys e = refl
+none-then (x ∷ xs) ys e = step (x .0) (none-then xs ys) e
+  where
+    step : (b : Bool) → (firstFailing xs ≡ None → firstFailing (xs ++ ys) ≡ firstFailing ys) → elim b [ true ↦ firstFailing xs | false ↦ Refuse (x .1) ] ≡ None
+        → elim b [ true ↦ firstFailing (xs ++ ys) | false ↦ Refuse (x .1) ] ≡ firstFailing ys
+    step true ih h = ih h
+    step false ih h = let z : _≡_ {A = ℕ} 0 1 = cc in absurd (omega arith)
+
+pub fails-then : (xs ys : List Check) (e : Errno) → firstFailing xs ≡ Refuse e → firstFailing (xs ++ ys) ≡ Refuse e
+unfolding firstFailing
+fails-then [] ys e h = let z : _≡_ {A = ℕ} 0 1 = cc in absurd (omega arith)
+fails-then (x ∷ xs) ys e h = step (x .0) (fails-then xs ys e) h
+  where
+    step : (b : Bool) → (firstFailing xs ≡ Refuse e → firstFailing (xs ++ ys) ≡ Refuse e) → elim b [ true ↦ firstFailing xs | false ↦ Refuse (x .1) ] ≡ Refuse e
+        → elim b [ true ↦ firstFailing (xs ++ ys) | false ↦ Refuse (x .1) ] ≡ Refuse e
+    step true ih g = ih g
+    step false ih g = g
+
+-- a test that stands twice
+pub twice : (c : Check) (cs : List Check) → firstFailing (c ∷ c ∷ cs) ≡ firstFailing (c ∷ cs)
+unfolding firstFailing
+twice c cs = step (c .0) refl
+  where
+    step : (t : Bool) → c .0 ≡ t → firstFailing (c ∷ c ∷ cs) ≡ firstFailing (c ∷ cs)
+    step true q = rw (q, firstFailing) (rw (q, firstFailing))
+    step false q = rw (q, firstFailing)
+
+pub after : (c : Check) (xs ys : List Check) → firstFailing xs ≡ firstFailing ys → firstFailing (c ∷ xs) ≡ firstFailing (c ∷ ys)
+unfolding firstFailing
+after c xs ys e = ap (λ (f : Refusal). elim (c .0) [ true ↦ f | false ↦ Refuse (c .1) ]) e
 
 -- ---- EFAULT first, then the call's own tests in their order
 

@@ -1,5 +1,5 @@
 -- Writing a word of a memory-mapped register, and changing a line, leave a sound, initialised device sound.
-use Prim.Native.Nat.{ℕ, zero, suc, _+_, _*_, _/_, _%_, _^_, _≤_, _<_, min}
+use Prim.Native.Nat.{ℕ, zero, suc, _+_, _*_, _/_, _%_, _^_, _≤_, _<_}
 use mathlib.Core.Path.{_≡_, refl, sym, ap, _∙_}
 use mathlib.Core.Bool.{Bool, true, false, cond, _&&_}
 use mathlib.Core.List.{List}
@@ -32,7 +32,7 @@ use Rattle.model.proofs.Within.{fits-bit, fits-le, bits-fit}
 use Rattle.model.proofs.Soundness.{Sound, open-sound, Ready, ready-sound, word-used}
 use Rattle.model.proofs.Decode.{decode-words, config-view}
 use Rattle.model.proofs.Masks.{route-bits, header-bits, block-is, block-word, bank-is}
-use Rattle.model.proofs.Fields.{bank-at, flag-bit, priority-bit, edge-bit}
+use Rattle.model.proofs.Fields.{spi-within, banks-most, bank-at, flag-bit, priority-bit, edge-bit}
 use Rattle.model.proofs.Stores.{MayStore, stands, store-same, store-sound, store-ready, Free, Outside, block-store, outside-store}
 
 -- ---- words that fit a mask
@@ -166,11 +166,7 @@ module _ (s : List ℕ) (h : Ready s) where
     high : id < 1020
 
   open-spi : (id : ℕ) → isSpi s id ≡ true → Spi id
-  unfolding isSpi
-  open-spi id e =
-      let a = both (leb 32 id) (ltb id (min (count s) 1020)) e in
-      let l = ltb-true id (min (count s) 1020) (a .1) in
-      record { low = leb-true 32 id (a .0); counted = omega arith; high = omega arith }
+  open-spi id e = let p = spi-within s id e in record { low = p .0; counted = omega arith; high = omega arith }
 
   not-spi : (id : ℕ) → id < 32 → isSpi s id ≡ false
   unfolding isSpi
@@ -318,11 +314,6 @@ module _ (s : List ℕ) (h : Ready s) where
   status-small Attribute old value = omega arith
 
   -- ---- writing word k of a register, in a view whose vCPU is there; the distributor's is 0, and an initialised device has it
-
-  banks-most : (x : View) → banks x ≤ 32
-  unfolding banks
-  banks-most Distributor = omega arith
-  banks-most (Frame v) = omega arith
 
   -- the least ID of a row is that of its flag
   flag-row : (f : Flags) → (flags f .field < 5) × (flags f .from ≡ leastId (flags f .field))

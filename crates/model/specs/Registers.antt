@@ -84,7 +84,7 @@ unfoldable pub rows : View → List Row
 rows Distributor = distributorRows
 rows (Frame v) = frameRows
 
--- banks of 32 interrupts in a view, and words of a register there
+-- how many banks of 32 interrupts a view has, and how many words of a register: IROUTER has two for each ID from 32 to 1019
 unfoldable pub banks : View → ℕ
 banks Distributor = 32
 banks (Frame v) = 1

@@ -1,7 +1,7 @@
 -- A register's word read from the words of its bank, and written to them, as the definitions say it interrupt by interrupt.
 use Prim.Native.Nat.{ℕ, _+_, _*_, _-_, _/_, _%_, _≤_, _<_}
-use mathlib.Core.Path.{_≡_, refl, sym, ap, _∙_}
-use mathlib.Core.Bool.{Bool, true, false, cond, _&&_}
+use mathlib.Core.Path.{_≡_, sym, ap, _∙_}
+use mathlib.Core.Bool.{Bool, cond, _&&_, and-comm, and-assoc}
 use mathlib.Core.List.{List}
 use native.Mathlib.Nat.{add-assoc}
 use native.Mathlib.Omega.{arith}
@@ -21,24 +21,13 @@ use Rattle.model.specs.declared.Shown.{Shown}
 use Rattle.model.specs.declared.Shown.the-variants.{Nothing, Flag, Pending}
 use Rattle.model.proofs.Bits.{gather-same, gather-lt, bit-gather, word-is}
 use Rattle.model.proofs.Within.{bit-none}
-use Rattle.model.proofs.Fields.{flag-bit, priority-bit, edge-bit}
+use Rattle.model.proofs.Fields.{banks-most, flag-bit, priority-bit, edge-bit}
 use Rattle.words.specs.Words.{under, priorityUnder, collect}
 use Rattle.words.proofs.Operators.{bit-and}
 use Rattle.words.proofs.Pending.{pending-bit}
 use Rattle.state.proofs.Lending.{at-mid, one-stored}
 use Rattle.registers.specs.Words.{flagsMeant, prioritiesMeant, edgesMeant, shownIn, edgesUnder, names}
 use Rattle.registers.specs.declared.Bytes.{Bytes}
-use Rattle.registers.proofs.Meant.{banks-most}
-
-and-swap : (a b : Bool) → (a && b) ≡ (b && a)
-and-swap true true = refl
-and-swap true false = refl
-and-swap false true = refl
-and-swap false false = refl
-
-and-assoc : (a b c : Bool) → (a && b && c) ≡ (a && (b && c))
-and-assoc true b c = refl
-and-assoc false b c = refl
 
 -- a bit of word k of IPRIORITYR, and an edge flag of word k of ICFGR, in the bank's word
 of-four : (s : List ℕ) (v k i : ℕ) → i < 32 → bit (priority s v (4 * k + i / 8)) (i % 8) ≡ bit (word s (bank v (k / 8) + 5 + k % 8)) i
@@ -51,7 +40,7 @@ of-sixteen s v k i l = let p : 2 * (k / 2) + k % 2 ≡ k = omega arith in rw p a
 masked : (w m : ℕ) (f g : ℕ → Bool) → m ≡ gather 32 f → ((i : ℕ) → i < 32 → bit w i ≡ g i) → bitAnd w m ≡ gather 32 (λ i. f i && g i)
 masked w m f g e h =
     word-is 32 (bitAnd w m) (λ i. f i && g i) (omega (arith, and-le-r w m, gather-lt 32 f))
-    (λ i l. bit-and w m i ∙ and-swap (bit w i) (bit m i) ∙ rw (e, bit-gather 32 f i l, h i l))
+    (λ i l. bit-and w m i ∙ and-comm (bit w i) (bit m i) ∙ rw (e, bit-gather 32 f i l, h i l))
 
 module _ (s : List ℕ) (x : View) (at : ℕ) where
   -- ---- 32 flags
@@ -90,7 +79,7 @@ module _ (s : List ℕ) (x : View) (at : ℕ) where
           rw (
             and-assoc (eqb (i % 2) 1),
             bit-and (word s (at + 13 + k % 2)) m (i / 2),
-            and-swap (bit (word s (at + 13 + k % 2)) (i / 2)),
+            and-comm (bit (word s (at + 13 + k % 2)) (i / 2)),
             q,
             bit-gather 16 (λ j. has s x (16 * k + j)) (i / 2) (omega arith),
             of-sixteen s (seenBy x) k (i / 2) (omega arith),

@@ -1,15 +1,11 @@
 -- Laws that several of the functions on a register's parts use.
-use Prim.Native.Nat.{ℕ, _+_, _/_, _%_, _^_, _≤_}
-use mathlib.Core.Path.{_≡_, sym, _∙_}
-use mathlib.Core.Bool.{Bool}
+use Prim.Native.Nat.{ℕ, _+_, _/_}
+use mathlib.Core.Path.{_≡_, _∙_}
 use native.Mathlib.Omega.{arith}
-use Rattle.model.specs.Words.{bit, gather}
 use Rattle.model.specs.Layout.{routeAt}
 use Rattle.model.specs.declared.By.{By}
 use Rattle.model.specs.declared.By.the-variants.{Guest, Attribute}
 use Rattle.model.specs.declared.Flags.{Flags}
-use Rattle.model.proofs.Bits.{gather-bits, gather-same}
-use Rattle.words.proofs.Expressions.{Word}
 use Rattle.registers.specs.Words.{theirs}
 
 -- a row of a table: the guest's and the attribute's, of a register that is known to be k
@@ -17,10 +13,6 @@ pub row-is : {A : Type 0} (g : By → Flags → A) (by : By) (f k : Flags) {x y 
 unfolding theirs
 row-is g Guest f k e p q h = rw e (h ∙ p)
 row-is g Attribute f k e p q h = rw e (h ∙ q)
-
--- the n low bits of a word that is known bit by bit
-pub low-bits : (n : ℕ) {w : ℕ} {f : ℕ → Bool} → n ≤ 32 → Word w f → w % 2 ^ n ≡ gather n f
-low-bits n {w} {f} h x = sym (gather-bits n w) ∙ gather-same n (bit w) f (λ i l. x .bits i (omega arith))
 
 -- the place of the route that word k of IROUTER shows
 pub route-place : (k : ℕ) → routeAt (32 + k / 2) ≡ 768 + k / 2

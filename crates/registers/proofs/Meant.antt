@@ -1,10 +1,11 @@
 -- Which interrupts of a word a view has: all, none, or the 28 before ID 1020.
-use Prim.Native.Nat.{ℕ, _+_, _*_, _/_, _%_, _^_, _≤_, _<_, min}
-use mathlib.Core.Path.{_≡_, refl, ap, _∙_}
+use Prim.Native.Nat.{ℕ, _+_, _*_, _/_, _%_, _^_, _<_}
+use mathlib.Core.Path.{_≡_, ap, _∙_}
+use mathlib.Core.Bool as bool
 use mathlib.Core.Bool.{Bool, true, false, not, _&&_}
 use mathlib.Core.List.{List}
 use native.Mathlib.Omega.{arith}
-use borrow.Author.Tests.{lt-ltb, ltb-true, leb-true, le-leb}
+use borrow.Author.Tests.{lt-ltb, ltb-true, le-leb}
 use lib.Dec.{leb, ltb}
 use lib.Bits.{bitAnd}
 use mir.Syntax.{w64}
@@ -16,22 +17,14 @@ use Rattle.model.specs.Registers.{banks, has}
 use Rattle.model.specs.declared.View.{View}
 use Rattle.model.specs.declared.View.the-variants.{Distributor, Frame}
 use Rattle.model.proofs.Bits.{gather-same, gather-lt, bit-gather, bit-mod, bit-shift, word-is}
+use Rattle.model.proofs.Fields.{spi-within, within-spi, banks-most}
 use Rattle.model.proofs.Refused.{told-no, told-yes}
 use Rattle.model.proofs.Tests.{both, and-true, same-test}
 use Rattle.words.proofs.Expressions.{gathers, gathered, same-bits, ands, ones-from}
 use Rattle.registers.specs.Words.{flagsMeant, prioritiesMeant, edgesMeant}
 
-pub banks-most : (x : View) → banks x ≤ 32
-unfolding banks
-banks-most Distributor = omega arith
-banks-most (Frame v) = omega arith
-
-and-yes : (a : Bool) → (a && true) ≡ a
-and-yes true = refl
-and-yes false = refl
-
 past-true : (a b : Bool) → (a && true && b) ≡ (a && b)
-past-true a b = rw (and-yes a)
+past-true a b = ap (λ (t : Bool). t && b) (bool.and-true a)
 
 -- ---- an interrupt of a view
 
@@ -47,20 +40,12 @@ module _ (s : List ℕ) (x : View) (id : ℕ) where
 -- ---- where the count is a multiple of 32
 
 module _ (s : List ℕ) (step : count s % 32 ≡ 0) where
-  spi : (id : ℕ) → isSpi s id ≡ true → (32 ≤ id) × (id < min (count s) 1020)
-  unfolding isSpi
-  spi id e = let p = both (leb 32 id) (ltb id (min (count s) 1020)) e in (leb-true 32 id (p .0), ltb-true id (min (count s) 1020) (p .1))
-
-  is-spi : (id : ℕ) → 32 ≤ id → id < min (count s) 1020 → isSpi s id ≡ true
-  unfolding isSpi
-  is-spi id l m = and-true (le-leb 32 id l) (lt-ltb id (min (count s) 1020) m)
-
   -- a view has all or none of four interrupts
   pub four-alike : (x : View) (a b : ℕ) → a / 4 ≡ b / 4 → has s x a ≡ has s x b
   unfolding has isPrivate
   four-alike Distributor a b e =
-      same-test (isSpi s a) (isSpi s b) (λ h. is-spi b (omega (arith, spi a h)) (omega (arith, spi a h)))
-      (λ h. is-spi a (omega (arith, spi b h)) (omega (arith, spi b h)))
+      same-test (isSpi s a) (isSpi s b) (λ h. within-spi s b (omega (arith, spi-within s a h)) (omega (arith, spi-within s a h)))
+      (λ h. within-spi s a (omega (arith, spi-within s b h)) (omega (arith, spi-within s b h)))
   four-alike (Frame v) a b e = same-test (ltb a 32) (ltb b 32) (λ h. lt-ltb b 32 (omega (arith, ltb-true a 32 h))) (λ h. lt-ltb a 32 (omega (arith, ltb-true b 32 h)))
 
   -- of 32 it has those below 1020, or none
@@ -68,10 +53,10 @@ module _ (s : List ℕ) (step : count s % 32 ≡ 0) where
   unfolding has isPrivate banks
   word-alike Distributor k i l m =
       same-test (isSpi s (32 * k + i)) (isSpi s (32 * k) && ltb (32 * k + i) 1020)
-      (λ h. and-true (is-spi (32 * k) (omega (arith, spi (32 * k + i) h)) (omega (arith, spi (32 * k + i) h))) (lt-ltb (32 * k + i) 1020 (omega (arith, spi (32 * k + i) h))))
+      (λ h. and-true (within-spi s (32 * k) (omega (arith, spi-within s (32 * k + i) h)) (omega (arith, spi-within s (32 * k + i) h))) (lt-ltb (32 * k + i) 1020 (omega (arith, spi-within s (32 * k + i) h))))
       (λ h. let p = both (isSpi s (32 * k)) (ltb (32 * k + i) 1020) h in
-      let q = spi (32 * k) (p .0) in
-      is-spi (32 * k + i) (omega arith) (omega (arith, ltb-true (32 * k + i) 1020 (p .1))))
+      let q = spi-within s (32 * k) (p .0) in
+      within-spi s (32 * k + i) (omega arith) (omega (arith, ltb-true (32 * k + i) 1020 (p .1))))
   word-alike (Frame v) k i l m = rw (lt-ltb (32 * k + i) 32 (omega arith), lt-ltb (32 * k) 32 (omega arith), lt-ltb (32 * k + i) 1020 (omega arith))
 
   -- ---- 32 flags
@@ -127,7 +112,7 @@ module _ (s : List ℕ) (step : count s % 32 ≡ 0) where
   module _ (x : View) (k m : ℕ) (e : m ≡ flagsMeant s x 0 (k / 2)) where
     half : (i : ℕ) → i < 32 → bit m i ≡ has s x (32 * (k / 2) + i)
     unfolding flagsMeant
-    half i l = rw (e, bit-gather 32 (λ j. has s x (32 * (k / 2) + j) && leb 0 (32 * (k / 2) + j)) i l, le-leb 0 (32 * (k / 2) + i) (omega arith)) (and-yes (has s x (32 * (k / 2) + i)))
+    half i l = rw (e, bit-gather 32 (λ j. has s x (32 * (k / 2) + j) && leb 0 (32 * (k / 2) + j)) i l, le-leb 0 (32 * (k / 2) + i) (omega arith)) (bool.and-true (has s x (32 * (k / 2) + i)))
 
     pub low-half : k % 2 ≡ 0 → m % 65536 ≡ edgesMeant s x k
     unfolding edgesMeant

@@ -157,6 +157,7 @@ fn shows(by: By, guest: Shown, attribute: Shown) -> Shown
     }
 }
 
+// The same of a rule.
 fn writes(by: By, guest: Rule, attribute: Rule) -> Rule
     ensures { λ r. ⌜ r ≡ theirs by guest attribute ⌝ }
 {

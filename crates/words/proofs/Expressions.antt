@@ -1,5 +1,5 @@
 -- Words of 32 bits that are known bit by bit: the proof for an expression of the code has the expression's shape.
-use Prim.Native.Nat.{ℕ, _+_, _*_, _-_, _%_, _^_, _<_}
+use Prim.Native.Nat.{ℕ, _+_, _*_, _-_, _%_, _^_, _≤_, _<_}
 use mathlib.Core.Path.{_≡_, refl, sym, ap, _∙_}
 use mathlib.Core.Bool.{Bool, true, false, not, cond, _&&_, _||_, and-true, and-false, or-true, or-false}
 use native.Mathlib.Decide.{decLt}
@@ -10,7 +10,7 @@ use lib.Bits.{bitAnd, bitOr, and-lt, or-lt}
 use mir.Syntax.{w32}
 use mir.Val.{Fits}
 use Rattle.model.specs.Words.{bit, gather, allBelow}
-use Rattle.model.proofs.Bits.{gather-lt, bit-gather, bit-mod, word-is}
+use Rattle.model.proofs.Bits.{gather-lt, gather-same, gather-bits, bit-gather, bit-mod, word-is}
 use Rattle.model.proofs.Tests.{below-at}
 use Rattle.words.proofs.Operators.{bit-or, bit-and, bit-not, bit-shl-low, bit-shl-high, bit-one, bit-halves}
 
@@ -61,6 +61,10 @@ ones-from {k} h = record { small = omega arith; bits = λ i l. bit-mod 32 (0xfff
 
 pub halves : (lo hi : ℕ) → Word (bitOr (lo % 65536) (hi * 2 ^ 16 % 2 ^ 32)) (λ i. bit (cond (ltb i 16) lo hi) (i % 16))
 halves lo hi = record { small = or-lt 32 (lo % 65536) (hi * 2 ^ 16 % 2 ^ 32) (omega arith) (omega arith); bits = bit-halves lo hi }
+
+-- the n low bits of a word that is known bit by bit
+pub low-bits : (n : ℕ) {w : ℕ} {f : ℕ → Bool} → n ≤ 32 → Word w f → w % 2 ^ n ≡ gather n f
+low-bits n {w} {f} h x = sym (gather-bits n w) ∙ gather-same n (bit w) f (λ i l. x .bits i (omega arith))
 
 -- ---- a flag w, a bit x written to it, and the mask's bit m
 

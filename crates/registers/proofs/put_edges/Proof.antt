@@ -3,9 +3,8 @@ use native.Mathlib.Omega.{arith}
 use borrow.Author.Needs.{needs}
 use Rattle.model.specs.Registers.{flagAfter}
 use Rattle.words.specs.Words.{under}
-use Rattle.words.proofs.Expressions.{gathered}
+use Rattle.words.proofs.Expressions.{low-bits, gathered}
 use Rattle.registers.specs.Words.{edgesUnder}
-use Rattle.registers.proofs.Leaves.{low-bits}
 use Rattle.registers.proofs.put_edges.Statement.{statement}
 use Rattle.registers.proofs.put_edges.Tie as tie
 

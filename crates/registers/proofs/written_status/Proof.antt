@@ -2,8 +2,7 @@
 use native.Mathlib.Omega.{arith}
 use borrow.Author.Needs.{needs}
 use Rattle.model.specs.Registers.{writtenStatus}
-use Rattle.words.proofs.Expressions.{itself, ands, nots}
-use Rattle.registers.proofs.Leaves.{low-bits}
+use Rattle.words.proofs.Expressions.{low-bits, itself, ands, nots}
 use Rattle.registers.proofs.written_status.Statement.{statement}
 use Rattle.registers.proofs.written_status.Tie as tie
 
