@@ -9,19 +9,16 @@ use lib.Dec.{eqb, ltb, leb}
 use lib.ListN.{length, getD}
 use borrow.Author.Tests.{le-leb, lt-ltb, ltb-true, leb-true, eqb-true, eqb-false, eq-eqb, not-true}
 use Rattle.model.specs.Registers.{Row, row, inRow, decode, rows, banks, wordsOf}
-use Rattle.model.specs.Interface.{SystemRow, systemRows, systemIn, system}
+use Rattle.model.specs.Interface.{SystemRow, systemRows, systemIn, system, groupIn}
 use Rattle.model.specs.declared.View.{View}
 use Rattle.model.specs.declared.View.the-variants.{Distributor, Frame}
-use Rattle.model.specs.declared.Flags.the-variants.{Group, SetEnable, ClearEnable, SetPending, ClearPending, SetActive, ClearActive}
+use Rattle.model.specs.declared.Flags.the-variants.{Group, SetEnable, SetPending, SetActive}
 use Rattle.model.specs.declared.Register.{Register}
 use Rattle.model.specs.declared.Register.the-variants.{Control, Status, Bits, Priority, Config, Route}
 use Rattle.model.specs.declared.Decoded.{Decoded}
 use Rattle.model.specs.declared.Decoded.the-variants.{Listed, Unlisted}
 use Rattle.model.specs.declared.SystemRegister.{SystemRegister}
-use Rattle.model.specs.declared.SystemRegister.the-variants.{Both, Read, Write, Unnamed}
-use Rattle.model.specs.declared.Plain.the-variants.{Pmr, Bpr, Apr, Ctlr, Sre, Igrpen}
-use Rattle.model.specs.declared.Readable.the-variants.{Iar, Hppir, Rpr}
-use Rattle.model.specs.declared.Writable.the-variants.{Eoir, Dir, Sgi1r, Sgi0r}
+use Rattle.model.specs.declared.SystemRegister.the-variants.{Unnamed}
 use Rattle.model.proofs.Tests.{both, not-both}
 
 -- ---- a list of which at most one member passes a test
@@ -390,24 +387,7 @@ register-passes f (r ∷ rs) h e = step (eqb e (r .encoding)) (both (f (r .regis
     step true p ih = p
     step false p ih = ih
 
--- the interrupt group of a system register, 0 where it has none
-abbrev pub groupIn : SystemRegister → ℕ
-groupIn (Both Pmr) = 0
-groupIn (Both (Bpr g)) = g
-groupIn (Both (Apr g)) = g
-groupIn (Both Ctlr) = 0
-groupIn (Both Sre) = 0
-groupIn (Both (Igrpen g)) = g
-groupIn (Read (Iar g)) = g
-groupIn (Read (Hppir g)) = g
-groupIn (Read Rpr) = 0
-groupIn (Write (Eoir g)) = g
-groupIn (Write Dir) = 0
-groupIn (Write Sgi1r) = 0
-groupIn (Write Sgi0r) = 0
-groupIn Unnamed = 0
-
--- it is 0 or 1
+-- the interrupt group of a system register is 0 or 1
 pub system-group : (e : ℕ) → groupIn (system e) < 2
 unfolding system
 system-group e = ltb-true (groupIn (systemIn systemRows e)) 2 (register-passes (λ r. ltb (groupIn r) 2) systemRows refl e)

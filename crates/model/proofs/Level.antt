@@ -9,7 +9,7 @@ use lib.Dec.{eqb, ltb}
 use lib.IntN.{pos, negℤ}
 use Rattle.model.specs.Words.{bit}
 use Rattle.model.specs.Layout.{word, isInitialised, pmrAt, aprAt, running}
-use Rattle.model.specs.Interface.{system, best, nothing, found, rankPriority, groupPriority, runningLevel, ofGroup, gives, offered, levelOf, levelClear, systemReadClear}
+use Rattle.model.specs.Interface.{system, readGroup, groupIn, best, nothing, found, rankPriority, groupPriority, runningLevel, ofGroup, gives, offered, levelOf, levelClear, systemReadClear}
 use Rattle.model.specs.Refusals.{Check, firstFailing, errno}
 use Rattle.model.specs.Calls.{readSystem, lentTo, acceptable, guestChecks, readChecks, checks, isVcpu, refusal, call}
 use Rattle.model.specs.declared.Refusal.{Refusal}
@@ -21,7 +21,7 @@ use Rattle.model.specs.declared.Readable.the-variants.{Iar, Hppir, Rpr}
 use Rattle.model.specs.declared.SystemRegister.{SystemRegister}
 use Rattle.model.specs.declared.SystemRegister.the-variants.{Both, Read, Write, Unnamed}
 use Rattle.model.proofs.Tests.{both, below-lowest}
-use Rattle.model.proofs.Decode.{groupIn, system-group}
+use Rattle.model.proofs.Decode.{system-group}
 use Rattle.model.proofs.Refused.{negative-errno}
 
 or-false : (a b : Bool) → (a || b) ≡ false → (a ≡ false) × (b ≡ false)
@@ -71,7 +71,7 @@ offered-clear s v g h = step (gives s v g (best s v)) refl
 
 -- ---- no read of a system register is refused with EIO, at any state
 
-read-clear : (s : List ℕ) (v : ℕ) (r : Readable) → groupIn (Read r) < 2 → systemReadClear s v r ≡ true
+read-clear : (s : List ℕ) (v : ℕ) (r : Readable) → readGroup r < 2 → systemReadClear s v r ≡ true
 unfolding systemReadClear
 read-clear s v (Iar g) h = offered-clear s v g h
 read-clear s v (Hppir g) h = refl

@@ -22,6 +22,7 @@ pub mod Stores
 pub mod Writes
 pub mod Kept
 pub mod Mapped
+pub mod System
 pub mod Mixed
 pub mod Asked
 pub mod Restores

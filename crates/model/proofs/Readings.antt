@@ -10,7 +10,7 @@ use lib.Dec.{eqb, leb}
 use lib.ListN.{getD}
 use Rattle.model.specs.Words.{bit, allBelow, spread}
 use Rattle.model.specs.Layout.{word, count, vcpus, block, bank, routeAt}
-use Rattle.model.specs.Interrupts.{isPrivate, isSpi, flag, edge, priority}
+use Rattle.model.specs.Interrupts.{isPrivate, isSpi, edge}
 use Rattle.model.specs.Sound.{lastBankBits}
 use Rattle.model.specs.Registers.{has, seenBy, shows, readFlags, readPriority, readConfig, readRoute}
 use Rattle.model.specs.declared.View.{View}

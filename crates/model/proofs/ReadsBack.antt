@@ -1,5 +1,5 @@
 -- A put reads back exactly what some device of the target's set-up reads there, as the page says of restore.
-use Prim.Native.Nat.{ℕ, _+_, _*_, _-_, _/_, _%_, _^_, _≤_, _<_, min, max}
+use Prim.Native.Nat.{ℕ, _+_, _*_, _-_, _/_, _%_, _≤_, _<_, min}
 use mathlib.Core.Path.{_≡_, refl, sym, ap, _∙_}
 use mathlib.Core.Bool.{true}
 use mathlib.Core.List.{List, List·Memᴰ}
@@ -7,41 +7,26 @@ use mathlib.Core.Logic.{_↔_}
 use native.Mathlib.Omega.{arith}
 use borrow.Author.Tests.{eqb-true}
 use lib.ListN.{set}
-use Rattle.model.specs.Words.{bit, within, allBelow}
 use Rattle.model.specs.Layout.{count, vcpus, block, bank, routeAt}
-use Rattle.model.specs.Sound.{fits}
 use Rattle.model.specs.Registers.{has, seenBy, writePriority, writeRoute, write, flags, ruleFor, writtenStatus, statusAt}
-use Rattle.model.specs.Interface.{plainWrite}
 use Rattle.model.specs.Attributes.{Attribute, itemOf, takes, itemRead, itemWrite}
 use Rattle.model.specs.Record.{listed, attributeOf, entryRead, readable}
 use Rattle.model.specs.Demands.{Stopped, Fresh, Alike}
 use Rattle.model.specs.declared.View.the-variants.{Distributor, Frame}
 use Rattle.model.specs.declared.Item.{Item}
-use Rattle.model.proofs.Tests.{both, below-at}
+use Rattle.model.proofs.Tests.{both}
 use Rattle.model.proofs.Soundness.{stopped-ready, Ready}
 use Rattle.model.proofs.Masks.{SpiWord}
 use Rattle.model.proofs.Fields.{bank-at}
 use Rattle.model.proofs.Readings.{is-spi}
-use Rattle.model.proofs.Listed.{Listed, groups, enables, latches, actives, Stored, pmr, ctlr, ap0r, ap1r, igrpen0, igrpen1, control, status, spi-flags, spi-lines, spi-priority, spi-config, spi-route, vcpu-status, vcpu-flags, vcpu-lines, vcpu-priority, vcpu-system, family, bpr0, bpr1}
-use Rattle.model.proofs.Places.{storedAt, plainOf, placeOf, namedBy, names-item, reads-place}
+use Rattle.model.proofs.Listed.{Listed, groups, enables, latches, actives, pmr, ctlr, ap0r, ap1r, igrpen0, igrpen1, control, status, spi-flags, spi-lines, spi-priority, spi-config, spi-route, vcpu-status, vcpu-flags, vcpu-lines, vcpu-priority, vcpu-system, family, bpr0, bpr1}
+use Rattle.model.proofs.Places.{placeOf, namedBy, names-item, reads-place}
 use Rattle.model.proofs.Cover.{carried}
 use Rattle.model.proofs.Stores.{store-same, store-ready, store-stopped}
-use Rattle.model.proofs.Writes.{low-fits, Leaves, stores-block, stores-flags, stores-priority, stores-config, stores-route, stores-enables, stores-status}
+use Rattle.model.proofs.Writes.{Leaves, stores-flags, stores-priority, stores-config, stores-route, stores-enables, stores-status}
+use Rattle.model.proofs.System.{stores-pmr, stores-ctlr, stores-bpr, stores-apr, stores-igrpen}
 use Rattle.model.proofs.Restores.{fresh-ready, fresh-stopped}
 use Rattle.model.proofs.Recorded.{value-readable}
-
--- the bits of PMR and of CTLR
-pmr-fits : (x : ℕ) → fits (x % 256 / 8 * 8) 0xf8 ≡ true
-pmr-fits x = below-at (λ u. fits (u * 8) 0xf8) 32 test (x % 256 / 8) (omega arith)
-  where
-    test : allBelow (λ u. fits (u * 8) 0xf8) 32 ≡ true
-    test = unfold allBelow fits within in refl
-
-ctlr-fits : (x : ℕ) → fits (x / 2 % 2 * 2) 2 ≡ true
-ctlr-fits x = below-at (λ u. fits (u * 2) 2) 2 test (x / 2 % 2) (omega arith)
-  where
-    test : allBelow (λ u. fits (u * 2) 2) 2 ≡ true
-    test = unfold allBelow fits within in refl
 
 -- ---- a put of any value to a listed attribute stores a word that may stand there
 
@@ -67,17 +52,6 @@ module _ (s : List ℕ) (h : Ready s) where
       let z : 8 * 0 + j ≡ j = omega arith in
       rw z at (stores-priority s h (Frame v) (λ i. true) 0 j value l (omega arith) m)
 
-  put-system : (v : ℕ) (p : Stored) (x : ℕ) → v < vcpus s → Leaves s (block v + storedAt p) (plainWrite s v (plainOf p) x)
-  unfolding plainWrite
-  put-system v pmr x l = stores-block s h v 19 _ l (omega arith) (omega arith) (pmr-fits x)
-  put-system v ctlr x l = stores-block s h v 20 _ l (omega arith) (omega arith) (ctlr-fits x)
-  put-system v bpr0 x l = stores-block s h v 21 _ l (omega arith) (omega arith) (low-fits 3 (max 2 (x % 8)) 7 (omega arith) (unfold allBelow bit in refl))
-  put-system v bpr1 x l = stores-block s h v 22 _ l (omega arith) (omega arith) (low-fits 3 (max 3 (x % 8)) 7 (omega arith) (unfold allBelow bit in refl))
-  put-system v ap0r x l = stores-block s h v 23 _ l (omega arith) (omega arith) (low-fits 32 (x % 2 ^ 32) 0xffffffff (omega arith) (unfold allBelow bit in refl))
-  put-system v ap1r x l = stores-block s h v 24 _ l (omega arith) (omega arith) (low-fits 32 (x % 2 ^ 32) 0xffffffff (omega arith) (unfold allBelow bit in refl))
-  put-system v igrpen0 x l = stores-block s h v 25 _ l (omega arith) (omega arith) (low-fits 1 (x % 2) 1 (omega arith) (unfold allBelow bit in refl))
-  put-system v igrpen1 x l = stores-block s h v 26 _ l (omega arith) (omega arith) (low-fits 1 (x % 2) 1 (omega arith) (unfold allBelow bit in refl))
-
   pub put-leaves : {a : Attribute} (l : Listed s a) (value : ℕ) → Leaves s (placeOf l) (itemWrite s (namedBy l) value)
   unfolding itemWrite write flags ruleFor writtenStatus statusAt seenBy
   put-leaves control x = stores-enables s h x
@@ -97,7 +71,14 @@ module _ (s : List ℕ) (h : Ready s) where
   put-leaves (vcpu-flags v actives l) x = stores-flags s h (Frame v) 3 0 _ 0 x l (omega arith) (omega arith) refl
   put-leaves (vcpu-lines v l) x = stores-flags s h (Frame v) 4 16 _ 0 x l (omega arith) (omega arith) refl
   put-leaves (vcpu-priority v j l m) x = put-private-priority v j x l m
-  put-leaves (vcpu-system v p l) x = put-system v p x l
+  put-leaves (vcpu-system v pmr l) x = stores-pmr s h v x l
+  put-leaves (vcpu-system v ctlr l) x = stores-ctlr s h v x l
+  put-leaves (vcpu-system v bpr0 l) x = stores-bpr s h v 0 x l (omega arith)
+  put-leaves (vcpu-system v bpr1 l) x = stores-bpr s h v 1 x l (omega arith)
+  put-leaves (vcpu-system v ap0r l) x = stores-apr s h v 0 x l (omega arith)
+  put-leaves (vcpu-system v ap1r l) x = stores-apr s h v 1 x l (omega arith)
+  put-leaves (vcpu-system v igrpen0 l) x = stores-igrpen s h v 0 x l (omega arith)
+  put-leaves (vcpu-system v igrpen1 l) x = stores-igrpen s h v 1 x l (omega arith)
 
 -- ---- the rule
 

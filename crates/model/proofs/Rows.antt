@@ -10,7 +10,7 @@ use Rattle.model.specs.Sound.{entry, usedBits, freshBits, allowedBits, f
 use Rattle.model.specs.Refusals.{errno, number, firstFailing}
 use Rattle.model.specs.Registers.{inRow, decode, rows, flags, shownTo, ruleFor, shows, flagAfter, has, seenBy, readFlags, readPriority, readConfig, readRoute, statusAt, frameTyper, read, writeFlags, writePriority, writeConfig, writeRoute, writtenStatus, write, access, byByte, readAccess, writeAccess, guestRead, guestWrite}
 use Rattle.model.specs.Lines.{latches, lineChanged}
-use Rattle.model.specs.Interface.{systemIn, system, plainRead, plainWrite, plainTakes, ownOrRouted, groupOn, candidate, rank, better, scan, best, clearedBits, groupPriority, runningLevel, runningPriority, ofGroup, gives, offered, levelOf, setLevel, taken, levelClear, acknowledged, highestPending, signal, ended, deactivated, named, targets, reaches, sgiSent, systemRead, systemReadNext, systemReadClear, systemWrite}
+use Rattle.model.specs.Interface.{systemIn, system, plainRead, plainWrite, plainTakes, ownOrRouted, groupOn, candidate, rank, better, scan, best, clearedBits, groupPriority, runningLevel, runningPriority, ofGroup, gives, offered, levelOf, setLevel, taken, levelClear, acknowledged, highestPending, signal, dropped, ended, deactivated, named, targets, reaches, sgiSent, systemRead, systemReadNext, systemReadClear, systemWrite}
 use Rattle.model.specs.Attributes.{groupOf, indexOf, numberOk, affinityKnown, mappedItem, mapped, systemItem, item, known, registerTakes, takes, itemRead, itemWrite, itemIn, itemOf}
 use Rattle.model.specs.Record.{groupsOf, encode, more, readGroups, decodeNumber, ofSpiWord, ofRoute, ofVcpuBlock, listed, entries, entryRead, entryBytes, recordOf, saved, readable, entryPut, taking, load, restored, faults, loadedState}
 use Rattle.model.specs.Calls.{Call, call, lentTo, acceptable, guestChecks, frameChecks, readChecks, writeChecks, hasLine, registerChecks, getChecks, setChecks, checks, refusal, systemValue, getValue, value, made, vcpuAdded, initialisedNext, systemReadState, systemWriteState, setState, next, lentBytes, filled, settle, frontOf, handedBack, after, trace}
@@ -47,7 +47,7 @@ answered (c ∷ cs) [] s = false
 answered (c ∷ cs) (r ∷ rs) s = let o = call c s in sameNumber (o .answer) r && answered cs rs (o .state)
 
 unfoldable pub meets : List ℕ → Row → Bool
-unfolding sameNumber sameWords answered bit gather withBit within lowest allBelow every each isPrivate isPpi isSpi exists pending setFlag entry usedBits freshBits allowedBits fits wordOk isCount setup isAffinity unused vcpuOk sound stopped fresh errno number firstFailing inRow decode rows flags shownTo ruleFor shows flagAfter has seenBy readFlags readPriority readConfig readRoute statusAt frameTyper read writeFlags writePriority writeConfig writeRoute writtenStatus write access byByte readAccess writeAccess guestRead guestWrite latches lineChanged systemIn system plainRead plainWrite plainTakes ownOrRouted groupOn candidate rank better scan best clearedBits groupPriority runningLevel runningPriority ofGroup gives offered levelOf setLevel taken levelClear acknowledged highestPending signal ended deactivated named targets reaches sgiSent systemRead systemReadNext systemReadClear systemWrite groupOf indexOf numberOk affinityKnown mappedItem mapped systemItem item known registerTakes takes itemRead itemWrite itemIn itemOf groupsOf encode more readGroups decodeNumber ofSpiWord ofRoute ofVcpuBlock listed entries entryRead entryBytes recordOf saved readable entryPut taking load restored faults loadedState call lentTo acceptable guestChecks frameChecks readChecks writeChecks hasLine registerChecks getChecks setChecks checks refusal systemValue getValue value made vcpuAdded initialisedNext systemReadState systemWriteState setState next lentBytes filled settle frontOf handedBack after trace
+unfolding sameNumber sameWords answered bit gather withBit within lowest allBelow every each isPrivate isPpi isSpi exists pending setFlag entry usedBits freshBits allowedBits fits wordOk isCount setup isAffinity unused vcpuOk sound stopped fresh errno number firstFailing inRow decode rows flags shownTo ruleFor shows flagAfter has seenBy readFlags readPriority readConfig readRoute statusAt frameTyper read writeFlags writePriority writeConfig writeRoute writtenStatus write access byByte readAccess writeAccess guestRead guestWrite latches lineChanged systemIn system plainRead plainWrite plainTakes ownOrRouted groupOn candidate rank better scan best clearedBits groupPriority runningLevel runningPriority ofGroup gives offered levelOf setLevel taken levelClear acknowledged highestPending signal dropped ended deactivated named targets reaches sgiSent systemRead systemReadNext systemReadClear systemWrite groupOf indexOf numberOk affinityKnown mappedItem mapped systemItem item known registerTakes takes itemRead itemWrite itemIn itemOf groupsOf encode more readGroups decodeNumber ofSpiWord ofRoute ofVcpuBlock listed entries entryRead entryBytes recordOf saved readable entryPut taking load restored faults loadedState call lentTo acceptable guestChecks frameChecks readChecks writeChecks hasLine registerChecks getChecks setChecks checks refusal systemValue getValue value made vcpuAdded initialisedNext systemReadState systemWriteState setState next lentBytes filled settle frontOf handedBack after trace
 meets s (answer cs rs) = answered cs rs s
 meets s (hands cs c bytes) = sameWords (handedBack (call c (after cs s))) bytes
 meets s (fills cs c bytes) = sameWords (call c (after cs s) .buffer) bytes

@@ -5,7 +5,7 @@ use mathlib.Core.Bool.{Bool, true, false, cond, _&&_}
 use mathlib.Core.List.{List}
 use mathlib.Core.Logic.{_⊎_, inl, inr, ⊎-elim}
 use native.Mathlib.Omega.{arith}
-use borrow.Author.Tests.{eqb-true, lt-ltb, ltb-true, leb-true, le-leb, lt-leb}
+use borrow.Author.Tests.{eqb-true, ne-eqb, lt-ltb, ltb-true, leb-true, le-leb, lt-leb}
 use lib.Dec.{eqb, ltb, leb}
 use lib.ListN.{getD, set}
 use lib.Pow.{pow-mono}
@@ -119,10 +119,13 @@ module _ (s : List ℕ) (h : Ready s) where
   pub leaves-ready : {p : ℕ} {t : List ℕ} → Leaves s p t → Ready t
   leaves-ready {p} l = rw (l .state) (store-ready s p (l .stored) (l .may) h)
 
-  -- an interrupt that is there stays there
+  -- as many vCPUs, and an interrupt that is there stays there
+  pub leaves-number : {p : ℕ} {t : List ℕ} → Leaves s p t → vcpus t ≡ vcpus s
+  leaves-number {p} l = rw (l .state) (store-same s p (l .stored) (l .may) .alike .same-number)
+
   pub leaves-present : {p : ℕ} {t : List ℕ} (v id : ℕ) → Leaves s p t → Present s v id → Present t v id
   unfolding isSpi
-  leaves-present {p} v id l (own m n) = own (rw (l .state, store-same s p (l .stored) (l .may) .alike .same-number) m) n
+  leaves-present {p} v id l (own m n) = own (rw (leaves-number l) m) n
   leaves-present {p} v id l (shared e) = shared (rw (l .state, store-same s p (l .stored) (l .may) .alike .same-count) e)
 
   -- ---- a place where every word that fits may be stored
@@ -396,6 +399,10 @@ module _ (s : List ℕ) (h : Ready s) where
       small (own m n) = omega arith
       small (shared a) = let b = open-spi id a in omega arith
 
+  -- a flag that SGIs have too: any but the line
+  pub stores-no-line : (k : ℕ) (t : Bool) (v id : ℕ) → k < lineField → Present s v id → Leaves s (bank v (id / 32) + k) (setFlag k t v id s)
+  stores-no-line k t v id l q = stores-flag k t v id (omega arith) (rw (ne-eqb k lineField (omega arith)) (le-leb 0 id (omega arith))) q
+
   -- an interrupt that has a line is there, and no SGI
   lined : (v id : ℕ) → hasLine s v id ≡ true → Present s v id × (leb 16 id ≡ true)
   unfolding hasLine isPpi
@@ -405,14 +412,15 @@ module _ (s : List ℕ) (h : Ready s) where
       step true p l = let a = both (leb 16 id) (ltb id 32) p in (own (ltb-true v (vcpus s) l) (ltb-true id 32 (a .1)), a .0)
       step false p l = let q = open-spi id l in (shared l, le-leb 16 id (omega arith))
 
-  -- the latch may be set with the line
-  latched : (b : Bool) (v id : ℕ) → Present s v id → Ready (cond b (setFlag latchField true v id s) s) × Present (cond b (setFlag latchField true v id s) s) v id
-  latched true v id q = let l = stores-flag latchField true v id (omega arith) (le-leb 0 id (omega arith)) q in (leaves-ready l, leaves-present v id l q)
-  latched false v id q = (h, q)
+  -- the latch may be set: with the line, or by an SGI
+  pub latched : (b : Bool) (v id : ℕ) → Present s v id
+      → Ready (cond b (setFlag latchField true v id s) s) × ((u i : ℕ) → Present s u i → Present (cond b (setFlag latchField true v id s) s) u i)
+  latched true v id q = let l = stores-no-line latchField true v id (omega arith) q in (leaves-ready l, λ u i. leaves-present u i l)
+  latched false v id q = (h, λ u i p. p)
 
 pub line-sound : (s : List ℕ) → Ready s → (v id : ℕ) (level : Bool) → hasLine s v id ≡ true → Sound (lineChanged s v id level)
 unfolding lineChanged
 line-sound s h v id level e =
     let a = lined s h v id e in
     let b = latched s h (latches s v id level) v id (a .0) in
-    leaves-sound _ (b .0) (stores-flag _ (b .0) lineField level v id (omega arith) (a .1) (b .1))
+    leaves-sound _ (b .0) (stores-flag _ (b .0) lineField level v id (omega arith) (a .1) (b .1 v id (a .0)))

@@ -89,6 +89,10 @@ acceptable (aRecord bytes) s = sound s
 abbrev pub isVcpu : List ℕ → ℕ → Bool
 isVcpu s v = ltb v (vcpus s)
 
+-- a call that names a vCPU, running or not: not initialised; no such index
+abbrev pub vcpuChecks : ℕ → List ℕ → List Check
+vcpuChecks v s = (isInitialised s, Ebusy) ∷ (isVcpu s v, Einval) ∷ []
+
 -- guest access: not initialised; no such vCPU or frame; not running
 unfoldable pub guestChecks : ℕ → List ℕ → List Check
 guestChecks v s = (isInitialised s, Ebusy) ∷ (isVcpu s v, Einval) ∷ (eqb (running s v) 1, Eperm) ∷ []
@@ -133,9 +137,9 @@ setChecks Unknown a x s = (false, Enxio) ∷ []
 unfoldable pub checks : Call → List ℕ → List Check
 checks make s = []
 checks (addVcpu a) s = (not (isInitialised s), Ebusy) ∷ (isAffinity a, Einval) ∷ (unused s a (vcpus s), Eexist) ∷ (ltb (vcpus s) mostVcpus, Enomem) ∷ []
-checks (setRunning v on) s = (isInitialised s, Ebusy) ∷ (isVcpu s v, Einval) ∷ []
+checks (setRunning v on) s = vcpuChecks v s
 checks (changeLine v id level) s = (isInitialised s, Ebusy) ∷ (hasLine s v id, Einval) ∷ []
-checks (querySignal v) s = (isInitialised s, Ebusy) ∷ (isVcpu s v, Einval) ∷ []
+checks (querySignal v) s = vcpuChecks v s
 checks (readDistributor v off size) s = guestChecks v s
 checks (writeDistributor v off size x) s = guestChecks v s
 checks (readFrame v f off size) s = frameChecks v f s

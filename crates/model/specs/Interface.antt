@@ -55,6 +55,32 @@ systemIn (r ∷ rs) e = elim (eqb e (r .encoding)) [ true ↦ r .register | fals
 unfoldable pub system : ℕ → SystemRegister
 system e = systemIn systemRows e
 
+-- the interrupt group of a register, 0 where it has none: 0 or 1 for each that an encoding names (proofs/Decode: `system-group`)
+abbrev pub plainGroup : Plain → ℕ
+plainGroup Pmr = 0
+plainGroup (Bpr g) = g
+plainGroup (Apr g) = g
+plainGroup Ctlr = 0
+plainGroup Sre = 0
+plainGroup (Igrpen g) = g
+
+abbrev pub readGroup : Readable → ℕ
+readGroup (Iar g) = g
+readGroup (Hppir g) = g
+readGroup Rpr = 0
+
+abbrev pub writeGroup : Writable → ℕ
+writeGroup (Eoir g) = g
+writeGroup Dir = 0
+writeGroup Sgi1r = 0
+writeGroup Sgi0r = 0
+
+abbrev pub groupIn : SystemRegister → ℕ
+groupIn (Both p) = plainGroup p
+groupIn (Read r) = readGroup r
+groupIn (Write w) = writeGroup w
+groupIn Unnamed = 0
+
 -- ---- the plain registers
 
 unfoldable pub plainRead : List ℕ → ℕ → Plain → ℕ
@@ -188,12 +214,15 @@ signal s v = cond (found (offered s v 1)) 1 (cond (found (offered s v 0)) 2 0)
 abbrev pub eoiMode : List ℕ → ℕ → Bool
 eoiMode s v = bit (word s (ctlrAt v)) 1
 
--- nothing if no such interrupt, or if APgR lacks the running level; else that bit is cleared and, in EOImode 0, the interrupt made inactive
+-- that bit of APgR is cleared and, in EOImode 0, the interrupt made inactive
+unfoldable pub dropped : List ℕ → ℕ → ℕ → ℕ → ℕ → List ℕ
+dropped s v g id level = cond (eoiMode s v) (setLevel false v g level s) (setFlag activeField false v id (setLevel false v g level s))
+
+-- nothing if no such interrupt, or if APgR lacks the running level
 unfoldable pub ended : List ℕ → ℕ → ℕ → ℕ → List ℕ
 ended s v g id =
     let level = runningLevel s v in
-    cond (exists s id && bit (word s (aprAt v g)) level)
-    (cond (eoiMode s v) (setLevel false v g level s) (setFlag activeField false v id (setLevel false v g level s))) s
+    cond (exists s id && bit (word s (aprAt v g)) level) (dropped s v g id level) s
 
 -- in EOImode 1 makes an existing one inactive, else nothing
 unfoldable pub deactivated : List ℕ → ℕ → ℕ → List ℕ

@@ -50,6 +50,16 @@ pub const RUNNING: usize = 17;
 
 pub const FRAME_STATUS: usize = 18;
 
+pub const PMR: usize = 19;
+
+pub const CTLR: usize = 20;
+
 pub const BPR0: usize = 21;
 
 pub const BPR1: usize = 22;
+
+pub const AP0R: usize = 23;
+
+pub const AP1R: usize = 24;
+
+pub const IGRPEN0: usize = 25;
