@@ -1,20 +1,20 @@
 -- What the writers of the set-up calls ask, where their refusal is none.
 use Prim.Native.Nat.{ℕ, _<_}
 use mathlib.Core.Path.{_≡_}
-use mathlib.Core.List.{List, [], _∷_}
+use mathlib.Core.List.{List, _∷_}
 use native.Mathlib.Omega.{arith}
 use borrow.Author.Tests.{ltb-true}
 use mir.Syntax.{w32}
 use mir.Val.{Fits}
-use Rattle.model.specs.Layout.{mostVcpus, vcpus, isInitialised}
+use Rattle.model.specs.Layout.{mostVcpus, vcpus}
 use Rattle.model.specs.Sound.{sound}
 use Rattle.model.specs.Refusals.{firstFailing}
-use Rattle.model.specs.Calls.{addVcpu, checks, setChecks, isVcpu}
-use Rattle.model.specs.declared.Errno.the-variants.{Efault, Ebusy, Einval}
+use Rattle.model.specs.Calls.{addVcpu, checks, setChecks}
+use Rattle.model.specs.declared.Errno.the-variants.{Efault}
 use Rattle.model.specs.declared.Refusal.{Refusal}
 use Rattle.model.specs.declared.Refusal.the-variants.{None}
 use Rattle.model.specs.declared.AttributeGroup.the-variants.{Count}
-use Rattle.model.proofs.Soundness.{sound-vcpus, is-count}
+use Rattle.model.proofs.Soundness.{is-count}
 use Rattle.state.proofs.Admitted.{admitted}
 
 module _ (s : List ℕ) (r : Refusal) where
@@ -26,8 +26,3 @@ module _ (s : List ℕ) (r : Refusal) where
   pub count-fits : (x : ℕ) → r ≡ firstFailing ((sound s, Efault) ∷ setChecks Count 0 x s) → r ≡ None → Fits w32 x
   unfolding setChecks
   count-fits x e n = record { fits = omega (arith, is-count x (admitted s r (setChecks Count 0 x s) e n .1 .0) .most) }
-
-  pub running-inside : (v : ℕ) → r ≡ firstFailing ((sound s, Efault) ∷ (isInitialised s, Ebusy) ∷ (isVcpu s v, Einval) ∷ []) → r ≡ None → v < mostVcpus
-  running-inside v e n =
-      let p = admitted s r ((isInitialised s, Ebusy) ∷ (isVcpu s v, Einval) ∷ []) e n in
-      omega (arith, ltb-true v (vcpus s) (p .1 .1 .0), sound-vcpus s (p .0))

@@ -21,6 +21,7 @@ use state::is_count;
 use state::is_sound;
 use state::is_unused;
 use state::put_in_block;
+use state::vcpu_refusal;
 ghost use mathlib.Core.Path.{_≡_};
 ghost use mathlib.Core.List.{[], _∷_};
 ghost use mathlib.Core.Bool.{cond, not, _&&_, _||_};
@@ -30,7 +31,7 @@ ghost use lib.ListN.{length, replicate, set};
 ghost use Rattle.model.specs.Layout.{stateLength, mostVcpus, count, vcpus, isInitialised};
 ghost use Rattle.model.specs.Sound.{sound};
 ghost use Rattle.model.specs.Refusals.{firstFailing, number};
-ghost use Rattle.model.specs.Calls.{Does, call, checks, setChecks, isVcpu, make, addVcpu, setRunning, getAttribute, setAttribute, vcpuAdded, initialisedNext};
+ghost use Rattle.model.specs.Calls.{Does, call, checks, setChecks, make, addVcpu, setRunning, getAttribute, setAttribute, vcpuAdded, initialisedNext};
 ghost use Rattle.model.specs.declared.Errno.the-variants.{Efault, Ebusy, Einval};
 ghost use Rattle.model.specs.declared.AttributeGroup.the-variants.{Count, Initialise};
 
@@ -234,29 +235,11 @@ pub fn get_initialise(s: &[u32], attribute: u64) -> Answer
 
 // ---- running flag
 
-// 16 if not initialised; 22 no such index.
-fn running_refusal(s: &[u32], v: VcpuIndex) -> Refusal
-    ensures { λ r. ⌜ r ≡ firstFailing ((sound (now (s .entry)), Efault) ∷ (isInitialised (now (s .entry)), Ebusy) ∷ (isVcpu (now (s .entry)) (v .0), Einval) ∷ []) ⌝ }
-{
-    if !is_sound(s) {
-        return Refusal::Refuse(Errno::Efault);
-    }
-    if s[INITIALISED] != 1 {
-        return Refusal::Refuse(Errno::Ebusy);
-    }
-    let n = s[VCPUS] as usize;
-    if v.0 >= n {
-        return Refusal::Refuse(Errno::Einval);
-    }
-    Refusal::None
-}
-
 // Marks a vCPU as running, or as stopped.
 pub fn set_running(s: &mut [u32], v: VcpuIndex, on: bool) -> Answer
     ensures { λ r. ⌜ Does (call (setRunning (v .0) on) (now (s .entry))) (number r) (now (s .exit)) [] ⌝ }
 {
-    let refusal = running_refusal(s, v);
-    if let Refusal::Refuse(e) = refusal {
+    if let Refusal::Refuse(e) = vcpu_refusal(s, v) {
         return Answer::Refused(e);
     }
     put_in_block(s, v, RUNNING, on as u32);

@@ -4,7 +4,7 @@ use mathlib.Core.Path.{_≡_, sym, _∙_}
 use mathlib.Core.Bool.{Bool, true, false, not}
 use mathlib.Core.List.{List, _∷_}
 use native.Mathlib.Omega.{arith}
-use borrow.Author.Tests.{eq-eqb, ne-eqb}
+use borrow.Author.Tests.{eq-eqb, ne-eqb, ltb-true}
 use lib.Dec.{eqb, lit<}
 use lib.ListN.{length}
 use mir.Syntax.{w64}
@@ -12,7 +12,7 @@ use mir.Val.{Fits}
 use Rattle.model.specs.Layout.{stateLength, mostVcpus, vcpus}
 use Rattle.model.specs.Sound.{sound}
 use Rattle.model.specs.Refusals.{Check, firstFailing}
-use Rattle.model.specs.Calls.{Call, aDevice, lentTo, acceptable, checks, refusal}
+use Rattle.model.specs.Calls.{Call, aDevice, lentTo, acceptable, vcpuChecks, checks, refusal}
 use Rattle.model.specs.declared.Errno.{Errno}
 use Rattle.model.specs.declared.Errno.the-variants.{Efault}
 use Rattle.model.specs.declared.Refusal.{Refusal}
@@ -84,6 +84,12 @@ module _ (s : List ℕ) (r : Refusal) (cs : List Check) (e : r ≡ firstFailing 
 
   pub admitted-inside : (t : List ℕ) (i : ℕ) → r ≡ None → t ≡ s → i < stateLength → i < length t
   admitted-inside t i n q l = omega (arith, admitted-size t n q)
+
+-- a vCPU that is there has its block
+pub vcpu-inside : (s : List ℕ) (r : Refusal) (v : ℕ) → r ≡ firstFailing ((sound s, Efault) ∷ vcpuChecks v s) → r ≡ None → v < mostVcpus
+vcpu-inside s r v e n =
+    let p = admitted s r (vcpuChecks v s) e n in
+    omega (arith, ltb-true v (vcpus s) (p .1 .1 .0), sound-vcpus s (p .0))
 
 -- `search inside` finds what the test for soundness says, `search refusing` which refusal a branch has come to, `search answering` what a call does by it
 pub ruleset inside = (sound-inside, sound-size, sound-few, sound-fits, sound-index, lit<)

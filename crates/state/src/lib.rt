@@ -1,6 +1,8 @@
-// The lent state: lookup between vCPU index and affinity, the places of the parts that are lent on, and the test whether it is sound.
+// The lent state: lookup between vCPU index and affinity, the places of the parts that are lent on, the test whether it is sound, and the refusals of a call that names a vCPU.
 mod masks;
 
+use model::Errno;
+use model::Refusal;
 use model::layout::AFFINITY;
 use model::layout::BANK_LENGTH;
 use model::layout::BANKS;
@@ -19,6 +21,7 @@ use model::layout::VCPUS;
 use words::with_bit;
 ghost use mathlib.Core.Path.{_≡_};
 ghost use mathlib.Core.Bool.{true};
+ghost use mathlib.Core.List.{_∷_};
 ghost use Prim.Native.Nat.{_+_, _-_, _%_, _≤_, _<_};
 ghost use lib.Dec.{eqb};
 ghost use lib.ListN.{length, set};
@@ -26,6 +29,9 @@ ghost use Rattle.model.specs.Words.{withBit, lowest, allBelow, every};
 ghost use Rattle.model.specs.Layout.{stateLength, mostVcpus, word, vcpus, affinity, running, block, bank};
 ghost use Rattle.model.specs.Interrupts.{idsBelow, isSpi, setFlag};
 ghost use Rattle.model.specs.Sound.{usedBits, freshBits, fits, wordOk, isCount, setup, isAffinity, unused, vcpuOk, sound, stopped};
+ghost use Rattle.model.specs.Refusals.{firstFailing};
+ghost use Rattle.model.specs.Calls.{vcpuChecks};
+ghost use Rattle.model.specs.declared.Errno.the-variants.{Efault};
 ghost use Rattle.state.specs.Clear.{Apart, Clear};
 ghost use Rattle.state.specs.Lookup.{found};
 
@@ -340,4 +346,23 @@ pub fn is_sound(s: &[u32]) -> bool
         return false;
     }
     vcpus_ok(s, n) & words_fit(s, initialised, count, n)
+}
+
+// ---- the refusals of a call that names a vCPU, running or not
+
+// 14 not sound; 16 not initialised; 22 no such index.
+pub fn vcpu_refusal(s: &[u32], v: VcpuIndex) -> Refusal
+    ensures { λ r. ⌜ r ≡ firstFailing ((sound (now (s .entry)), Efault) ∷ vcpuChecks (v .0) (now (s .entry))) ⌝ }
+{
+    if !is_sound(s) {
+        return Refusal::Refuse(Errno::Efault);
+    }
+    if s[INITIALISED] != 1 {
+        return Refusal::Refuse(Errno::Ebusy);
+    }
+    let n = s[VCPUS] as usize;
+    if v.0 >= n {
+        return Refusal::Refuse(Errno::Einval);
+    }
+    Refusal::None
 }

@@ -1,14 +1,13 @@
 -- `setup::set_running` meets its contract.
 use lib.Dec.{lit<}
 use Rattle.model.specs.Calls.{lentTo, lentBytes, checks, filled, value, next}
-use Rattle.state.proofs.Admitted.{answering, admitted-size}
-use Rattle.setup.proofs.Admitted.{running-inside}
+use Rattle.state.proofs.Admitted.{answering, admitted-size, vcpu-inside}
 use borrow.Author.Needs.{needs}
 use Rattle.setup.proofs.set_running.Statement.{statement}
 use Rattle.setup.proofs.set_running.Tie as tie
 
 put-in-block-requires : tie.Need-put-in-block-requires
-put-in-block-requires c κs = (search admitted-size, search running-inside, search lit<)
+put-in-block-requires c κs = (search admitted-size, search vcpu-inside, search lit<)
 
 pub set-running-spec : {M : Type 1} → statement M
 set-running-spec =
