@@ -1,0 +1,11 @@
+-- `interface::eoi::deactivate` meets its contract.
+use Rattle.interface.proofs.Ended.{deactivated-below, deactivated-one, deactivated-none}
+use borrow.Author.Needs.{needs}
+use Rattle.interface.proofs.eoi.deactivate.Statement.{statement}
+use Rattle.interface.proofs.eoi.deactivate.Tie as tie
+
+pub deactivate-spec : {M : Type 1} → statement M
+deactivate-spec =
+    tie.close
+    (tie.spec (λ c κs. search needs) (λ c κs. search needs) (λ c κs. search (deactivated-below, needs)) (λ c. search needs)
+    (λ c. search deactivated-one) (λ c. search needs) (λ c. search deactivated-none))

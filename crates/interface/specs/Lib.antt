@@ -1,0 +1,5 @@
+-- What the contracts cite beside the definitions of model.
+pub mod Asked
+pub mod Search
+pub mod Answers
+pub mod Steps
