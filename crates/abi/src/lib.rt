@@ -1,9 +1,8 @@
 // The public calls for C: numbers and slices only. Each hands on to the call of vgic that has its name, with the same promise.
 use state::Mpidr;
 use state::VcpuIndex;
-ghost use mathlib.Core.Path.{_≡_};
 ghost use mathlib.Core.List.{[]};
-ghost use Rattle.model.specs.Calls.{Does, call, make, addVcpu, setRunning, changeLine, readDistributor, writeDistributor, readFrame, writeFrame, getAttribute, setAttribute};
+ghost use Rattle.model.specs.Calls.{Does, call, make, addVcpu, setRunning, changeLine, readDistributor, writeDistributor, readFrame, writeFrame, readSystem, writeSystem, querySignal, getAttribute, setAttribute};
 
 // ---- the calls that set a device up
 
@@ -114,6 +113,32 @@ pub extern "C" fn vgic_write_frame(
     ensures { λ r. ⌜ Does (call (writeFrame v frame offset size value) (now (state .entry))) r (now (state .exit)) [] ⌝ }
 {
     vgic::write_frame(state, VcpuIndex(v), VcpuIndex(frame), offset, size, value)
+}
+
+// ---- the guest's accesses to system registers, by the vCPU `v`, and its signal
+
+// Reads the system register of an encoding.
+#[no_mangle]
+pub extern "C" fn vgic_read_system(state: &mut [u32], v: usize, encoding: u64) -> i64
+    ensures { λ r. ⌜ Does (call (readSystem v encoding) (now (state .entry))) r (now (state .exit)) [] ⌝ }
+{
+    vgic::read_system(state, VcpuIndex(v), encoding)
+}
+
+// Writes the system register of an encoding.
+#[no_mangle]
+pub extern "C" fn vgic_write_system(state: &mut [u32], v: usize, encoding: u64, value: u64) -> i64
+    ensures { λ r. ⌜ Does (call (writeSystem v encoding value) (now (state .entry))) r (now (state .exit)) [] ⌝ }
+{
+    vgic::write_system(state, VcpuIndex(v), encoding, value)
+}
+
+// 1 if IAR1, 2 if IAR0 would give vCPU `v` an interrupt, else 0.
+#[no_mangle]
+pub extern "C" fn vgic_query_signal(state: &[u32], v: usize) -> i64
+    ensures { λ r. ⌜ Does (call (querySignal v) (now (state .entry))) r (now (state .entry)) [] ⌝ }
+{
+    vgic::query_signal(state, VcpuIndex(v))
 }
 
 // ---- lines

@@ -1,5 +1,5 @@
 -- What a guest's access reads and writes, by its size and by what its offset decodes to.
-use Prim.Native.Nat.{ℕ, _*_, _%_, _/_, _^_, _<_}
+use Prim.Native.Nat.{ℕ, _*_, _%_, _/_, _^_, _≤_, _<_}
 use mathlib.Core.Path.{_≡_, refl, sym, _∙_}
 use mathlib.Core.Bool.{Bool, true, false, cond, _&&_, true≢false}
 use mathlib.Core.List.{List, [], _∷_}
@@ -9,14 +9,17 @@ use types.Run.{OneOf, miss}
 use denote.Enum.Declared.{tagOf}
 use Rattle.model.proofs.Register.{the-type}
 use lib.Dec.{eqb}
+use mir.Syntax.{w64}
+use mir.Val.{Fits}
 use Rattle.model.specs.Layout.{mostVcpus, vcpus, running}
 use Rattle.model.specs.Sound.{sound}
 use Rattle.model.specs.Refusals.{firstFailing}
-use Rattle.model.specs.Calls.{isVcpu, guestChecks, frameChecks}
+use Rattle.model.specs.Calls.{isVcpu, vcpuChecks, guestChecks, frameChecks}
 use Rattle.model.specs.Registers.{decode, rows, banks, wordsOf, seenBy, read, write, writePriority, Access, whole, one, none, access, byByte, readAccess, writeAccess, guestRead, guestWrite}
+use Rattle.model.specs.declared.Errno.{Errno}
 use Rattle.model.specs.declared.Errno.the-variants.{Eperm, Efault, Einval}
 use Rattle.model.specs.declared.Refusal.{Refusal}
-use Rattle.model.specs.declared.Refusal.the-variants.{None}
+use Rattle.model.specs.declared.Refusal.the-variants.{None, Refuse}
 use Rattle.model.specs.declared.By.the-variants.{Guest}
 use Rattle.model.specs.declared.View.{View}
 use Rattle.model.specs.declared.View.the-variants.{Frame}
@@ -25,7 +28,7 @@ use Rattle.model.specs.declared.Register.the-variants.{Fixed, Control, Typer, I
 use Rattle.model.specs.declared.Decoded.{Decoded}
 use Rattle.model.specs.declared.Decoded.the-variants.{Listed, Unlisted}
 use Rattle.model.proofs.Tests.{both}
-use Rattle.model.proofs.Refused.{twice, after}
+use Rattle.model.proofs.Refused.{none-then, fails-then, twice, after}
 use Rattle.model.proofs.Decode.{decode-words}
 use Rattle.model.proofs.Soundness.{sound-vcpus}
 use Rattle.state.proofs.Admitted.{admitted}
@@ -149,6 +152,24 @@ unfolding names
 byte-put s t x k byte value w e q = let r : value % 256 % 256 ≡ value % 256 = omega arith in rw (← r, ← q) e
 
 -- ---- the frame that a call names
+
+-- the tests of a call that names a vCPU come first
+module _ (s : List ℕ) (v f : ℕ) (q : Refusal) (p : q ≡ firstFailing ((sound s, Efault) ∷ vcpuChecks v s)) where
+  pub front-frame : (e : Errno) → q ≡ Refuse e → Refuse e ≡ firstFailing ((sound s, Efault) ∷ frameChecks v f s)
+  unfolding frameChecks
+  front-frame e h = sym (fails-then ((sound s, Efault) ∷ vcpuChecks v s) ((isVcpu s f, Einval) ∷ (eqb (running s v) 1, Eperm) ∷ []) e (sym p ∙ h))
+
+  pub rest-frame : (r : Refusal) → q ≡ None → r ≡ firstFailing ((isVcpu s f, Einval) ∷ (eqb (running s v) 1, Eperm) ∷ []) → r ≡ firstFailing ((sound s, Efault) ∷ frameChecks v f s)
+  unfolding frameChecks
+  rest-frame r n e = e ∙ sym (none-then ((sound s, Efault) ∷ vcpuChecks v s) ((isVcpu s f, Einval) ∷ (eqb (running s v) 1, Eperm) ∷ []) (sym p ∙ n))
+
+-- where they hold
+module _ (s : List ℕ) (v : ℕ) (q : Refusal) (p : q ≡ firstFailing ((sound s, Efault) ∷ vcpuChecks v s)) (n : q ≡ None) where
+  front-few : vcpus s ≤ mostVcpus
+  front-few = sound-vcpus s (admitted s q (vcpuChecks v s) p n .0)
+
+  pub front-fits : Fits w64 (vcpus s)
+  front-fits = record { fits = omega (arith, front-few) }
 
 pub frame-inside : (s : List ℕ) (r : Refusal) (v f : ℕ) (x : View) → r ≡ firstFailing ((sound s, Efault) ∷ frameChecks v f s) → r ≡ None → x ≡ Frame f → seenBy x < mostVcpus
 unfolding frameChecks seenBy

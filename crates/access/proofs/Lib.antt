@@ -1,3 +1,4 @@
 -- The laws of the accesses.
 pub mod Accesses
 pub mod Changes
+pub mod Systems

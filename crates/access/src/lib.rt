@@ -1,4 +1,8 @@
-// The guest's accesses to memory-mapped registers, and line changes. Each has its refusals in document 01's order, EFAULT first.
+// The guest's accesses to memory-mapped and system registers, line changes, and the signal query. Each has its refusals in document 01's order, EFAULT first.
+use interface::acknowledge::signal;
+use interface::decode::register_of;
+use interface::read_register;
+use interface::write_register;
 use model::Answer;
 use model::By;
 use model::Decoded;
@@ -23,6 +27,7 @@ use state::bank_at;
 use state::is_sound;
 use state::is_spi;
 use state::running_of;
+use state::vcpu_refusal;
 use state::wide;
 use words::byte_at;
 use words::byte_of;
@@ -40,7 +45,7 @@ ghost use Rattle.model.specs.Sound.{sound};
 ghost use Rattle.model.specs.Refusals.{firstFailing, number};
 ghost use Rattle.model.specs.Registers.{banks, seenBy, byByte, writePriority, guestRead, guestWrite};
 ghost use Rattle.model.specs.Lines.{lineChanged};
-ghost use Rattle.model.specs.Calls.{Does, call, guestChecks, frameChecks, hasLine, readDistributor, writeDistributor, readFrame, writeFrame, changeLine};
+ghost use Rattle.model.specs.Calls.{Does, call, guestChecks, frameChecks, hasLine, readDistributor, writeDistributor, readFrame, writeFrame, readSystem, writeSystem, changeLine, querySignal};
 ghost use Rattle.model.specs.declared.Errno.the-variants.{Efault, Ebusy, Einval};
 ghost use Rattle.access.specs.Lines.{risesIn, latchedIn, lineIn};
 
@@ -50,16 +55,10 @@ ghost use Rattle.access.specs.Lines.{risesIn, latchedIn, lineIn};
 fn frame_refusal(s: &[u32], v: VcpuIndex, frame: VcpuIndex) -> Refusal
     ensures { λ r. ⌜ r ≡ firstFailing ((sound (now (s .entry)), Efault) ∷ frameChecks (v .0) (frame .0) (now (s .entry))) ⌝ }
 {
-    if !is_sound(s) {
-        return Refusal::Refuse(Errno::Efault);
-    }
-    if s[INITIALISED] != 1 {
-        return Refusal::Refuse(Errno::Ebusy);
+    if let Refusal::Refuse(e) = vcpu_refusal(s, v) {
+        return Refusal::Refuse(e);
     }
     let n = s[VCPUS] as usize;
-    if v.0 >= n {
-        return Refusal::Refuse(Errno::Einval);
-    }
     if frame.0 >= n {
         return Refusal::Refuse(Errno::Einval);
     }
@@ -69,7 +68,7 @@ fn frame_refusal(s: &[u32], v: VcpuIndex, frame: VcpuIndex) -> Refusal
     Refusal::None
 }
 
-// The same for the distributor: an access to it is tested as one to the vCPU's own frame.
+// The same for the distributor and for system registers: an access to them is tested as one to the vCPU's own frame.
 fn guest_refusal(s: &[u32], v: VcpuIndex) -> Refusal
     ensures { λ r. ⌜ r ≡ firstFailing ((sound (now (s .entry)), Efault) ∷ guestChecks (v .0) (now (s .entry))) ⌝ }
 {
@@ -196,6 +195,40 @@ pub fn write_frame(
     }
     guest_write(s, frame_view(frame), offset, size, value);
     Answer::Value(0)
+}
+
+// ---- system registers
+
+// Reads a system register.
+pub fn read_system(s: &mut [u32], v: VcpuIndex, encoding: u64) -> Answer
+    ensures { λ r. ⌜ Does (call (readSystem (v .0) encoding) (now (s .entry))) (number r) (now (s .exit)) [] ⌝ }
+{
+    if let Refusal::Refuse(e) = guest_refusal(s, v) {
+        return Answer::Refused(e);
+    }
+    read_register(s, v, register_of(encoding))
+}
+
+// Writes a system register.
+pub fn write_system(s: &mut [u32], v: VcpuIndex, encoding: u64, value: u64) -> Answer
+    ensures { λ r. ⌜ Does (call (writeSystem (v .0) encoding value) (now (s .entry))) (number r) (now (s .exit)) [] ⌝ }
+{
+    if let Refusal::Refuse(e) = guest_refusal(s, v) {
+        return Answer::Refused(e);
+    }
+    write_register(s, v, register_of(encoding), value)
+}
+
+// ---- the signal
+
+// Whether IAR1 or IAR0 would give vCPU `v` an interrupt, running or not.
+pub fn query_signal(s: &[u32], v: VcpuIndex) -> Answer
+    ensures { λ r. ⌜ Does (call (querySignal (v .0)) (now (s .entry))) (number r) (now (s .entry)) [] ⌝ }
+{
+    if let Refusal::Refuse(e) = vcpu_refusal(s, v) {
+        return Answer::Refused(e);
+    }
+    Answer::Value(signal(s, v))
 }
 
 // ---- line change

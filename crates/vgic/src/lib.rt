@@ -7,7 +7,7 @@ use state::VcpuIndex;
 ghost use mathlib.Core.Path.{_≡_};
 ghost use mathlib.Core.List.{[]};
 ghost use Rattle.model.specs.Refusals.{errno, number};
-ghost use Rattle.model.specs.Calls.{Does, call, make, addVcpu, setRunning, changeLine, readDistributor, writeDistributor, readFrame, writeFrame, getAttribute, setAttribute};
+ghost use Rattle.model.specs.Calls.{Does, call, make, addVcpu, setRunning, changeLine, readDistributor, writeDistributor, readFrame, writeFrame, readSystem, writeSystem, querySignal, getAttribute, setAttribute};
 
 // ---- the answer as a signed number
 
@@ -126,6 +126,29 @@ pub fn write_frame(
     ensures { λ r. ⌜ Does (call (writeFrame (v .0) (frame .0) offset size value) (now (state .entry))) r (now (state .exit)) [] ⌝ }
 {
     number_of(access::write_frame(state, v, frame, offset, size, value))
+}
+
+// ---- the guest's accesses to system registers, by the vCPU `v`, and its signal
+
+// Reads the system register of an encoding. A read of IAR0 or IAR1 acknowledges.
+pub fn read_system(state: &mut [u32], v: VcpuIndex, encoding: u64) -> i64
+    ensures { λ r. ⌜ Does (call (readSystem (v .0) encoding) (now (state .entry))) r (now (state .exit)) [] ⌝ }
+{
+    number_of(access::read_system(state, v, encoding))
+}
+
+// Writes the system register of an encoding.
+pub fn write_system(state: &mut [u32], v: VcpuIndex, encoding: u64, value: u64) -> i64
+    ensures { λ r. ⌜ Does (call (writeSystem (v .0) encoding value) (now (state .entry))) r (now (state .exit)) [] ⌝ }
+{
+    number_of(access::write_system(state, v, encoding, value))
+}
+
+// 1 if IAR1, 2 if IAR0 would give vCPU `v` an interrupt, else 0.
+pub fn query_signal(state: &[u32], v: VcpuIndex) -> i64
+    ensures { λ r. ⌜ Does (call (querySignal (v .0)) (now (state .entry))) r (now (state .entry)) [] ⌝ }
+{
+    number_of(access::query_signal(state, v))
 }
 
 // ---- lines
