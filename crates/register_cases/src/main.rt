@@ -1,40 +1,12 @@
 // Runs the guest's accesses to memory-mapped registers, line changes and attributes, and prints their answers and the words that they change. The file stdout holds what document 01 gives for each.
-use libc::STDOUT_FILENO;
+use report::say;
+use report::say_answer;
+use report::say_changed;
+use report::say_hex;
 use state::Mpidr;
 use state::VcpuIndex;
 
 // ---- printing
-
-fn say(text: &[u8]) {
-    io::write_all(STDOUT_FILENO, text);
-}
-
-// A space, and a number in hex.
-fn say_hex(n: u64) {
-    say(b" ");
-    io::print_hex(STDOUT_FILENO, n, 1);
-}
-
-// A refusal, in decimal.
-fn say_errno(r: i64) {
-    match r {
-        -1 => say(b" -1"),
-        -6 => say(b" -6"),
-        -14 => say(b" -14"),
-        -16 => say(b" -16"),
-        -22 => say(b" -22"),
-        _ => say(b" ?"),
-    }
-}
-
-// The answer: what is read in hex, or the refusal.
-fn say_answer(r: i64) {
-    if r < 0 {
-        say_errno(r);
-    } else {
-        say_hex(r as u64);
-    }
-}
 
 // A refusal, where a write or a set has one.
 fn say_refusal(r: i64) {
@@ -50,25 +22,6 @@ fn say_row(row: [u64; 4]) {
     say_hex(row[2]);
     say_hex(row[3]);
     say(b":");
-}
-
-// A word, where it changed, as its place in decimal and its value in hex.
-fn say_word(at: usize, word: u32, before: u32) {
-    if word != before {
-        say(b" ");
-        io::print_decimal(STDOUT_FILENO, at as u64);
-        say(b":");
-        io::print_hex(STDOUT_FILENO, word as u64, 1);
-    }
-}
-
-// The words that changed.
-fn say_changed(s: &[u32; 1760], before: &[u32; 1760]) {
-    let mut i: usize = 0;
-    while i < 1760 {
-        say_word(i, s[i], before[i]);
-        i += 1;
-    }
 }
 
 // ---- devices

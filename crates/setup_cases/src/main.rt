@@ -1,56 +1,20 @@
 // Runs the set-up calls and prints their answers and the words that they leave. The file stdout holds what document 01 gives for each.
-use libc::STDOUT_FILENO;
+use report::say;
+use report::say_decimal;
+use report::say_hex;
+use report::say_signed;
+use report::say_word;
 use state::Found;
 use state::Mpidr;
 use state::VcpuIndex;
 
 // ---- printing
 
-fn say(text: &[u8]) {
-    io::write_all(STDOUT_FILENO, text);
-}
-
-fn say_number(n: u64) {
-    io::print_decimal(STDOUT_FILENO, n);
-}
-
-fn say_hex(n: u32) {
-    io::print_hex(STDOUT_FILENO, n as u64, 1);
-}
-
-// How far a number is from 0.
-fn magnitude(r: i64) -> u64 {
-    if r < 0 {
-        return (-1 - r) as u64 + 1;
-    }
-    r as u64
-}
-
-// A space and the answer.
-fn say_answer(r: i64) {
-    if r < 0 {
-        say(b" -");
-    } else {
-        say(b" ");
-    }
-    say_number(magnitude(r));
-}
-
-// A word that is not zero, as its place and its value in hex.
-fn say_word(at: usize, word: u32) {
-    if word != 0 {
-        say(b" ");
-        say_number(at as u64);
-        say(b":");
-        say_hex(word);
-    }
-}
-
 // The words that are not zero, and the end of the line.
 fn say_words(s: &[u32]) {
     let mut i: usize = 0;
     while i < s.len() {
-        say_word(i, s[i]);
+        say_word(i, s[i], 0);
         i += 1;
     }
     say(b"\n");
@@ -62,11 +26,11 @@ fn say_words(s: &[u32]) {
 fn count_case(value: u64) {
     let mut s = [0u32; 1760];
     say(b"count ");
-    say_number(value);
+    say_decimal(value);
     say(b":");
-    say_answer(vgic::make(&mut s));
-    say_answer(vgic::set_count(&mut s, 0, value));
-    say_answer(vgic::get_count(&s, 0));
+    say_signed(vgic::make(&mut s));
+    say_signed(vgic::set_count(&mut s, 0, value));
+    say_signed(vgic::get_count(&s, 0));
     say(b"\n");
 }
 
@@ -91,38 +55,38 @@ fn counts() {
 fn count_first() {
     let mut s = [0xffff_ffffu32; 1760];
     say(b"count first:");
-    say_answer(vgic::make(&mut s));
-    say_answer(vgic::set_count(&mut s, 7, 96));
+    say_signed(vgic::make(&mut s));
+    say_signed(vgic::set_count(&mut s, 7, 96));
     say_add(&mut s, 0);
     say_add(&mut s, 0x0012_340f);
-    say_answer(vgic::initialise(&mut s, 0, 5));
+    say_signed(vgic::initialise(&mut s, 0, 5));
     say_words(&s);
 }
 
 fn vcpus_first() {
     let mut s = [0u32; 1760];
     say(b"vCPUs first:");
-    say_answer(vgic::make(&mut s));
+    say_signed(vgic::make(&mut s));
     say_add(&mut s, 0);
     say_add(&mut s, 0x0012_340f);
-    say_answer(vgic::set_count(&mut s, 0xffff_ffff_ffff_ffff, 96));
+    say_signed(vgic::set_count(&mut s, 0xffff_ffff_ffff_ffff, 96));
     say_words(&s);
     say(b"initialised:");
-    say_answer(vgic::initialise(&mut s, 0, 0));
+    say_signed(vgic::initialise(&mut s, 0, 0));
     say_words(&s);
 }
 
 fn no_count() {
     let mut s = [0u32; 1760];
     say(b"no count:");
-    say_answer(vgic::make(&mut s));
+    say_signed(vgic::make(&mut s));
     say_add(&mut s, 1);
-    say_answer(vgic::get_count(&s, 0));
-    say_answer(vgic::initialise(&mut s, 0, 0));
-    say_answer(vgic::get_count(&s, 0xffff_ffff));
+    say_signed(vgic::get_count(&s, 0));
+    say_signed(vgic::initialise(&mut s, 0, 0));
+    say_signed(vgic::get_count(&s, 0xffff_ffff));
     say_words(&s);
     say(b"again:");
-    say_answer(vgic::initialise(&mut s, 0, 0));
+    say_signed(vgic::initialise(&mut s, 0, 0));
     say_words(&s);
 }
 
@@ -130,18 +94,18 @@ fn no_count() {
 
 // The answer to adding a vCPU.
 fn say_add(s: &mut [u32], mpidr: u32) {
-    say_answer(vgic::add_vcpu(s, Mpidr(mpidr)));
+    say_signed(vgic::add_vcpu(s, Mpidr(mpidr)));
 }
 
 // The answer to marking a vCPU as running.
 fn say_run(s: &mut [u32], v: usize) {
-    say_answer(vgic::set_running(s, VcpuIndex(v), true));
+    say_signed(vgic::set_running(s, VcpuIndex(v), true));
 }
 
 fn nine_vcpus() {
     let mut s = [0u32; 1760];
     say(b"nine vCPUs:");
-    say_answer(vgic::make(&mut s));
+    say_signed(vgic::make(&mut s));
     say_add(&mut s, 0);
     say_add(&mut s, 0x100);
     say_add(&mut s, 0x200);
@@ -157,7 +121,7 @@ fn nine_vcpus() {
     say_add(&mut s, 0x0f);
     say_words(&s);
     say(b"initialised, all running:");
-    say_answer(vgic::initialise(&mut s, 0, 0));
+    say_signed(vgic::initialise(&mut s, 0, 0));
     say_run(&mut s, 0);
     say_run(&mut s, 1);
     say_run(&mut s, 2);
@@ -177,7 +141,7 @@ fn say_index(s: &[u32], mpidr: Mpidr) {
             match state::index_of(s, mpidr) {
                 Found::At(v) => {
                     say(b" ");
-                    say_number(v.0 as u64);
+                    say_decimal(v.0 as u64);
                 }
                 Found::Nowhere => say(b" none"),
             }
@@ -189,8 +153,7 @@ fn say_index(s: &[u32], mpidr: Mpidr) {
 fn say_affinity(s: &[u32], v: usize) {
     if s.len() == 1760 {
         if v < 8 {
-            say(b" ");
-            say_hex(state::affinity_of(s, VcpuIndex(v)).0);
+            say_hex(state::affinity_of(s, VcpuIndex(v)).0 as u64);
         }
     }
 }
@@ -238,16 +201,16 @@ fn refused_counts() {
     say(b"count set: 32, 64, 128:");
     vgic::make(&mut s);
     vgic::set_count(&mut s, 0, 64);
-    say_answer(vgic::set_count(&mut s, 0, 32));
-    say_answer(vgic::set_count(&mut s, 0, 64));
-    say_answer(vgic::set_count(&mut s, 0, 128));
+    say_signed(vgic::set_count(&mut s, 0, 32));
+    say_signed(vgic::set_count(&mut s, 0, 64));
+    say_signed(vgic::set_count(&mut s, 0, 128));
     say_words(&s);
     say(b"initialised: 32, 64, 128:");
     vgic::add_vcpu(&mut s, Mpidr(0));
     vgic::initialise(&mut s, 0, 0);
-    say_answer(vgic::set_count(&mut s, 0, 32));
-    say_answer(vgic::set_count(&mut s, 0, 64));
-    say_answer(vgic::set_count(&mut s, 0, 128));
+    say_signed(vgic::set_count(&mut s, 0, 32));
+    say_signed(vgic::set_count(&mut s, 0, 64));
+    say_signed(vgic::set_count(&mut s, 0, 128));
     say_words(&s);
 }
 
@@ -255,17 +218,17 @@ fn refused_initialise() {
     let mut s = [0u32; 1760];
     say(b"no vCPU: get 0, set 1, set 100000000, set 0:");
     vgic::make(&mut s);
-    say_answer(vgic::get_initialise(&s, 0));
-    say_answer(vgic::initialise(&mut s, 1, 0));
-    say_answer(vgic::initialise(&mut s, 0x1_0000_0000, 0));
-    say_answer(vgic::initialise(&mut s, 0, 0));
+    say_signed(vgic::get_initialise(&s, 0));
+    say_signed(vgic::initialise(&mut s, 1, 0));
+    say_signed(vgic::initialise(&mut s, 0x1_0000_0000, 0));
+    say_signed(vgic::initialise(&mut s, 0, 0));
     say_words(&s);
     say(b"initialised: get 0, set 1, set 0:");
     vgic::add_vcpu(&mut s, Mpidr(0));
     vgic::initialise(&mut s, 0, 0);
-    say_answer(vgic::get_initialise(&s, 0));
-    say_answer(vgic::initialise(&mut s, 1, 0));
-    say_answer(vgic::initialise(&mut s, 0, 0));
+    say_signed(vgic::get_initialise(&s, 0));
+    say_signed(vgic::initialise(&mut s, 1, 0));
+    say_signed(vgic::initialise(&mut s, 0, 0));
     say_words(&s);
 }
 
@@ -287,8 +250,8 @@ fn running_flags() {
     say_words(&s);
     say(b"run again, stop, stop again:");
     say_run(&mut s, 0);
-    say_answer(vgic::set_running(&mut s, VcpuIndex(0), false));
-    say_answer(vgic::set_running(&mut s, VcpuIndex(0), false));
+    say_signed(vgic::set_running(&mut s, VcpuIndex(0), false));
+    say_signed(vgic::set_running(&mut s, VcpuIndex(0), false));
     say_words(&s);
 }
 
@@ -303,8 +266,8 @@ fn run_one_of_three() {
     vgic::initialise(&mut s, 0, 0);
     say_run(&mut s, 1);
     say_run(&mut s, 2);
-    say_answer(vgic::set_running(&mut s, VcpuIndex(1), false));
-    say_answer(vgic::set_running(&mut s, VcpuIndex(0), false));
+    say_signed(vgic::set_running(&mut s, VcpuIndex(1), false));
+    say_signed(vgic::set_running(&mut s, VcpuIndex(0), false));
     say_words(&s);
 }
 
@@ -315,7 +278,7 @@ fn eight_initialised() {
     say_add(&mut s, 0x10);
     say_add(&mut s, 0x700);
     say_add(&mut s, 0x0f);
-    say_answer(vgic::get_initialise(&s, 7));
+    say_signed(vgic::get_initialise(&s, 7));
     say(b"\n");
 }
 
@@ -327,9 +290,9 @@ fn fault_first() {
     say_add(&mut s, 0x10);
     say_add(&mut s, 0);
     say_run(&mut s, 9);
-    say_answer(vgic::set_count(&mut s, 0, 32));
-    say_answer(vgic::initialise(&mut s, 1, 0));
-    say_answer(vgic::get_initialise(&s, 7));
+    say_signed(vgic::set_count(&mut s, 0, 32));
+    say_signed(vgic::initialise(&mut s, 1, 0));
+    say_signed(vgic::get_initialise(&s, 7));
     say_words(&s);
 }
 
@@ -502,12 +465,12 @@ fn same_words(a: &[u32], b: &[u32]) -> bool {
 
 // The answers of every call but make, and whether the words are those of `before`.
 fn say_calls(s: &mut [u32], before: &[u32]) {
-    say_answer(vgic::add_vcpu(s, Mpidr(2)));
-    say_answer(vgic::set_running(s, VcpuIndex(0), true));
-    say_answer(vgic::set_count(s, 0, 64));
-    say_answer(vgic::get_count(s, 0));
-    say_answer(vgic::initialise(s, 0, 0));
-    say_answer(vgic::get_initialise(s, 0));
+    say_signed(vgic::add_vcpu(s, Mpidr(2)));
+    say_signed(vgic::set_running(s, VcpuIndex(0), true));
+    say_signed(vgic::set_count(s, 0, 64));
+    say_signed(vgic::get_count(s, 0));
+    say_signed(vgic::initialise(s, 0, 0));
+    say_signed(vgic::get_initialise(s, 0));
     if same_words(s, before) {
         say(b" kept\n");
     } else {
@@ -528,15 +491,13 @@ fn place_case(state: [u32; 1760], row: [u32; 3]) {
     let first = row[1];
     let second = row[2];
     store(&mut s, at, first);
-    say_number(at as u64);
-    say(b" ");
-    say_hex(first);
+    say_decimal(at as u64);
+    say_hex(first as u64);
     say(b":");
-    say_answer(vgic::get_count(&s, 0));
+    say_signed(vgic::get_count(&s, 0));
     store(&mut s, at, second);
     let before = s;
-    say(b" ");
-    say_hex(second);
+    say_hex(second as u64);
     say(b":");
     say_calls(&mut s, &before);
 }
@@ -617,9 +578,9 @@ fn empty_words() {
 // The answers of every call, and whether the words are those of `before`.
 fn length_case(s: &mut [u32], before: &[u32]) {
     say(b"length ");
-    say_number(s.len() as u64);
+    say_decimal(s.len() as u64);
     say(b":");
-    say_answer(vgic::make(s));
+    say_signed(vgic::make(s));
     say_calls(s, before);
 }
 

@@ -1,8 +1,8 @@
--- `register_cases::say_changed` is safe.
+-- `report::say_changed` is safe.
 use Prim.Native.Nat.{_≤_, _-_}
 use borrow.Author.Needs.{needs}
-use Rattle.register_cases.proofs.say_changed.Statement.{statement}
-use Rattle.register_cases.proofs.say_changed.Tie as tie
+use Rattle.report.proofs.say_changed.Statement.{statement}
+use Rattle.report.proofs.say_changed.Tie as tie
 
 abbrev Inv-loop : tie.InvT-loop
 Inv-loop s before i₀ i = i ≤ 1760
