@@ -5,12 +5,15 @@
 
 Builds the crate `abi` (rt staticlib) and tests/driver.c, which makes the calls
 of libabi.a.  The driver and xdrill.py get the same lines: some that visit every
-offset, then at least LINES random calls (100000), from gen.py's sessions SEED
-(1), SEED + 1 and so on, with accesses and unsound states of this script's own
-between them.  Each answer is compared, and often all words of the state.  The
-driver itself sees to it that a refused call and a read change no word.
+offset, every priority at every binary point and running level, and chains of
+preemption; then at least LINES random calls (100000), from gen.py's sessions
+SEED (1), SEED + 1 and so on, with accesses and unsound states of this script's
+own between them.  Each answer is compared, and often all words of the state.
+The driver itself sees to it that a refused call changes no word, and a read
+only where it is of IAR.
 
-Prints how many calls of each kind were compared and how many were refused.
+Prints how many calls of each kind were compared, how many were refused, and how
+often an acknowledge, an end of interrupt, an SGI or a signal came to something.
 Ends with status 1 at the first difference, and shows the line; with status 2 if
 something is missing or cannot be built.
 
@@ -19,6 +22,7 @@ something is missing or cannot be built.
 """
 
 import collections
+import itertools
 import os
 import random
 import subprocess
@@ -37,7 +41,8 @@ gen, xdrill = sessions.load(ORACLE)
 GROUPS = (1, 3, 4, 5, 7)
 U32, U64 = xdrill.U32, xdrill.U64
 # 32 bits are the limit of the program `drill`; the calls take 64
-for name in (b"irqs", b"run", b"line", b"dr", b"dw", b"rr", b"rw"):
+for name in (b"irqs", b"run", b"line", b"dr", b"dw", b"rr", b"rw", b"sr", b"sw",
+             b"sig"):
     limits, reads, action = xdrill.PLAIN[name]
     limits = tuple(U64 if limit == U32 else limit for limit in limits)
     xdrill.PLAIN[name] = (limits, reads, action)
@@ -54,8 +59,6 @@ def call_of(line):
         call = sessions.NUMBERS[word](*[int(n, 16) for n in numbers])
     except TypeError:
         return None
-    if call[0] in ("readSystem", "writeSystem", "querySignal"):
-        return None
     if call[0] in ("getAttribute", "setAttribute") and call[1] not in GROUPS:
         return None
     return call
@@ -65,6 +68,28 @@ def kind_of(call):
     if call[0] in ("getAttribute", "setAttribute"):
         return "%s, group %d" % call[:2]
     return call[0]
+
+
+def moments(device):
+    """The AP registers and the latches of SGIs of each vCPU."""
+    return [(list(v.apr), [irq.latch for irq in v.private[:16]])
+            for v in device.vcpus]
+
+
+def came_to(call, answer, before, after):
+    """What an answered call of the CPU interface came to, if to anything."""
+    if call[0] == "querySignal":
+        return ["signal not 0"] if answer != "0" else []
+    if call[0] == "readSystem" and call[2] in gen.IAR and answer != "3ff":
+        deeper = any(before[call[1]][0])
+        return ["IAR that gave an ID"] + ["  of these, preemptions"] * deeper
+    if call[0] != "writeSystem" or before == after:
+        return []
+    if call[2] in gen.EOIR:
+        return ["EOIR that cleared a bit"]
+    if call[2] in (gen.SGI0R, gen.SGI1R):
+        return ["SGI write that latched"]
+    return []
 
 
 def words_text(words):
@@ -80,6 +105,7 @@ class Session:
         self.drill = xdrill.Drill()
         self.lines, self.answers = [], []
         self.kinds, self.errnos = collections.Counter(), collections.Counter()
+        self.events = collections.Counter()
         self.calls = 0
 
     @property
@@ -104,16 +130,25 @@ class Session:
         self.add(b"dump", self.drill.dump())
 
     def call(self, line):
-        """Adds a line, if it is a call that the driver has."""
+        """Adds a line, if it is a call that the driver has; its answer."""
         call = call_of(line)
         if call is None:
-            return
+            return None
+        before = moments(self.device)
         answer = self.drill.line(line)
-        if answer != "?":
-            self.add_call(line, call, answer)
+        if answer == "?":
+            return None
+        self.add_call(line, call, answer)
+        if not answer.startswith("-"):
+            self.events.update(came_to(call, answer, before, moments(self.device)))
+        return answer
+
+    def every_call(self, lines):
+        for line in lines:
+            self.call(line)
 
     def number(self, word, *numbers):
-        self.call(b" ".join([word, *(b"%x" % n for n in numbers)]))
+        return self.call(b" ".join([word, *(b"%x" % n for n in numbers)]))
 
     def unsound(self, line):
         """A call on a state that is not sound: 14, but for a make of the right length."""
@@ -132,19 +167,6 @@ class Session:
             self.drill = xdrill.Drill()
         self.add_call(line, call, "ok" if makes else "-14")
 
-    def interface(self):
-        """Random values in the CPU interfaces: no call that is compared writes them."""
-        r = self.r
-        for vcpu in self.device.vcpus:
-            vcpu.pmr, vcpu.eoimode = 8 * r.randrange(32), r.randrange(2)
-            vcpu.bpr = [r.randrange(2, 8), r.randrange(3, 8)]
-            vcpu.apr = [r.getrandbits(32), r.getrandbits(32)]
-            vcpu.grpen = [r.randrange(2), r.randrange(2)]
-        words = sessions.encode(self.device)
-        for at in range(16, 16 + 32 * len(self.device.vcpus)):
-            if (at - 16) % 32 in range(19, 27):
-                self.add(b"put %x %x" % (at, words[at]), "ok")
-
 
 # ---- random accesses -------------------------------------------------------
 
@@ -152,11 +174,15 @@ DISTRIBUTOR = [(0, 0x20), (0x80, 0x400), (0x400, 0x800), (0xC00, 0xD00),
                (0x6000, 0x8000), (0, 0x10000)]
 FRAME = [(0, 0x20), (0x10080, 0x10400), (0x10400, 0x10420), (0x10C00, 0x10C10),
          (0, 0x20000)]
+# by a vCPU: both groups on, PMR f8
+READY = (b"dw %x 0 3", b"sw %x c230 f8", b"sw %x c666 1", b"sw %x c667 1")
+UNLISTED = [0, 0xC22F, 0xC231, 0xC645, 0xC649, 0xC65A, 0xC65C, 0xC65E, 0xC668, 0x4660,
+            0x1C660, 0x1C230, 1 << 32 | 0xC660, 1 << 63 | 0xC230, U64]
 SIZES = [4] * 8 + [1] * 6 + [0, 2, 3, 8, 1 << 32 | 4, 1 << 32 | 1, U64]
 
 
 class Accesses:
-    """Random lines: any size, any offset, any value."""
+    """Random lines: any size, any offset, any encoding, any value."""
 
     def __init__(self, session):
         self.s, self.r = session, session.r
@@ -189,9 +215,13 @@ class Accesses:
         if self.r.random() < 0.6:
             self.s.number(read, *place)
 
+    def running(self):
+        """Mostly the index of a vCPU that runs."""
+        return self.index([i for i, vcpu in enumerate(self.s.device.vcpus)
+                           if vcpu.running])
+
     def guest(self):
-        vcpus = self.s.device.vcpus
-        v = self.index([i for i, vcpu in enumerate(vcpus) if vcpu.running])
+        vcpus, v = self.s.device.vcpus, self.running()
         size, value = self.r.choice(SIZES), self.value()
         if self.r.random() < 0.6:
             place = (v, self.offset(DISTRIBUTOR), size)
@@ -199,6 +229,79 @@ class Accesses:
         else:
             place = (v, self.index(range(len(vcpus))), self.offset(FRAME), size)
             self.write_and_read(b"wrw", b"rrw", place, value)
+
+    def raised(self, v):
+        """Makes some interrupt a candidate at vCPU v, which runs."""
+        r, device, number = self.r, self.s.device, self.s.number
+        i = r.choice([r.randrange(32), r.choice(device.spi_ids())])
+        for block in (0x100, 0x380, 0x200):      # enabled, inactive, latched
+            place = (v, v, 0x10000 + block) if i < 32 else (v, block + i // 32 * 4)
+            number(b"rw" if i < 32 else b"dw", *place, 1 << i % 32)
+        if i < 32:
+            number(b"wrb", v, v, 0x10400 + i, r.getrandbits(8))
+        else:
+            number(b"wdb", v, 0x400 + i, r.getrandbits(8))
+            number(b"dw", v, 0x6000 + 8 * i, device.vcpus[v].affinity)
+        if r.random() < 0.5:
+            self.s.every_call(line % v for line in READY)
+
+    def acknowledged(self, v):
+        """The signal, both HPPIRs, both IARs and RPR of a vCPU."""
+        self.s.number(b"sig", v)
+        for encoding in self.r.sample((*gen.HPPIR, *gen.IAR), 4):
+            self.s.number(b"sr", v, encoding)
+        self.s.number(b"sr", v, gen.RPR)
+
+    def active_id(self, v):
+        """Mostly an ID that is active at a vCPU, now and then with bits above it."""
+        r, device = self.r, self.s.device
+        found = [i for i, irq in device.spis.items() if irq.active]
+        if v < len(device.vcpus):
+            found += [i for i, irq in enumerate(device.vcpus[v].private) if irq.active]
+        i = r.choice(found) if found and r.random() < 0.8 else r.choice(
+            [r.randrange(1100), 1019, 1020, 1023, device.count])
+        if r.random() < 0.1:
+            i |= 1 << r.randrange(10, 64)
+        return i
+
+    def sgi_value(self):
+        """An SGI to affinities of the device, to all others, or to anyone."""
+        r = self.r
+        a = r.choice([v.affinity for v in self.s.device.vcpus] or [0])
+        value = (a >> 16 & 0xFF) << 32 | (a >> 8 & 0xFF) << 16 | r.randrange(16) << 24
+        value |= r.choice([1 << (a & 15), 0xFFFF, r.getrandbits(16)])
+        if r.random() < 0.2:
+            value |= 1 << 40
+        if r.random() < 0.2:
+            value |= 1 << r.randrange(64)
+        return r.getrandbits(64) if r.random() < 0.05 else value
+
+    def system_value(self, v, encoding):
+        """A value that matters to the register, now and then with more bits."""
+        r = self.r
+        if encoding in (*gen.EOIR, gen.DIR):
+            return self.active_id(v)
+        if encoding in (gen.SGI0R, gen.SGI1R):
+            return self.sgi_value()
+        if encoding in gen.APR:
+            value = r.choice([0, 0, 0, 1 << r.randrange(32), r.getrandbits(32)])
+        else:
+            value = r.choice([r.getrandbits(8), r.randrange(8), 0xF8])
+        return value | (r.getrandbits(64) << 32 & U64 if r.random() < 0.1 else 0)
+
+    def system(self):
+        r, v = self.r, self.running()
+        known = v < len(self.s.device.vcpus)
+        if known and self.s.device.initialised and r.random() < 0.5:
+            self.raised(v)
+        if r.random() < 0.4:
+            self.acknowledged(v)
+        encoding = r.choice(r.choice([gen.SYS_BOTH, gen.SYS_WRITE, gen.SYS_WRITE,
+                                      gen.SYS_ALL, UNLISTED]))
+        if r.random() < 0.7:
+            self.s.number(b"sw", v, encoding, self.system_value(v, encoding))
+        if r.random() < 0.4:
+            self.s.number(b"sr", v, encoding)
 
     def low(self, group):
         """Bits 31-0 of an attribute, and now and then more."""
@@ -221,6 +324,8 @@ class Accesses:
         stopped = not self.s.device.any_running()
         if self.r.random() < (0.8 if stopped else 0.04):
             self.attribute()
+        elif self.r.random() < 0.5:
+            self.system()
         else:
             self.guest()
 
@@ -237,8 +342,6 @@ def random_session(seed, lines):
             accesses.any()
         if session.r.random() < 0.02:
             session.unsound(line)
-        if session.device.initialised and session.r.random() < 0.01:
-            session.interface()
     session.look()
     return session
 
@@ -269,6 +372,83 @@ def every_offset(count):
     sweep(session, b"wdb", b"rdb", [(0, at) for at in range(0x3F0, 0x810)])
     sweep(session, b"wrb", b"rrb", [(0, f, at) for at in range(0x103F0, 0x10430)
                                     for f in (0, 1)])
+    session.look()
+    return session
+
+
+def started(name, every, count, affinities):
+    """A device whose vCPUs run, with both groups on and PMR f8."""
+    session, indexes = Session(name, every), range(len(affinities))
+    session.every_call([b"new", b"irqs %x" % count,
+                        *(b"vcpu %x" % a for a in affinities), b"init",
+                        *(b"run %x 1" % v for v in indexes),
+                        *(line % v for v in indexes for line in READY)])
+    return session
+
+
+def every_priority():
+    """An SGI of each group at each priority, binary point and running level."""
+    session = started("every priority", 256, 64, [0])
+    number, sgis = session.number, (9, 5)
+    number(b"rw", 0, 0, 0x10100, U32)
+    number(b"rw", 0, 0, 0x10080, 1 << sgis[1])
+    for g, bpr, priority in itertools.product((0, 1), range(8), range(0, 256, 8)):
+        i, other = sgis[g], gen.APR[1 - g]
+        number(b"sw", 0, gen.BPR[g], bpr)
+        number(b"wrb", 0, 0, 0x10400 + i, priority)
+        number(b"rw", 0, 0, 0x10200, 1 << i)
+        session.every_call(line for level in range(32) for line in
+                           (b"sw 0 %x %x" % (other, 1 << level), b"sig 0"))
+        number(b"sw", 0, other, 0)
+        number(b"sr", 0, gen.IAR[g])
+        number(b"sr", 0, gen.RPR)
+        number(b"sr", 0, gen.APR[g])
+        number(b"sw", 0, gen.EOIR[g], i)
+        number(b"rw", 0, 0, 0x10280, U32)
+    session.look()
+    return session
+
+
+def acknowledge_each(session, ids):
+    """Raises each in turn at a lower priority number: what IAR gave, with its group."""
+    number, taken = session.number, []
+    for k, i in enumerate(ids):
+        place = (1, 1, 0x10400 + i) if i < 32 else (1, 0x400 + i)
+        number(b"wrb" if i < 32 else b"wdb", *place, 0xF8 - 8 * k)
+        number(b"line", 1, i, 1)
+        number(b"sig", 1)
+        given = [number(b"sr", 1, encoding) for encoding in gen.IAR]
+        taken += [(g, int(x, 16)) for g, x in enumerate(given) if x != "3ff"]
+        number(b"sr", 1, gen.RPR)
+    return taken
+
+
+def end_each(session, taken):
+    """Ends each, the last first, by EOIR of the other group and of its own, and DIR."""
+    number = session.number
+    for g, i in reversed(taken):
+        number(b"line", 1, i, 0)
+        number(b"sw", 1, gen.EOIR[1 - g], i)
+        number(b"sw", 1, gen.EOIR[g], i)
+        number(b"sw", 1, gen.DIR, i)
+        number(b"sr", 1, gen.RPR)
+
+
+def every_chain():
+    """Chains of preemption in one group and in both, in both EOImodes, at each binary point."""
+    session = started("every chain", 64, 96, [1, 0])
+    number, ids = session.number, [*range(16, 32), *range(40, 56)]
+    number(b"rw", 1, 1, 0x10100, U32)
+    number(b"dw", 1, 0x104, U32)
+    for groups, mode, bpr in itertools.product(
+            (0, U32, 0xAAAAAAAA, 0xFF00FF00), (0, 2), range(8)):
+        number(b"sw", 1, gen.CTLR, mode)
+        number(b"sw", 1, gen.BPR[0], bpr)
+        number(b"sw", 1, gen.BPR[1], bpr)
+        number(b"rw", 1, 1, 0x10080, groups)
+        number(b"dw", 1, 0x84, groups)
+        end_each(session, acknowledge_each(session, ids))
+        session.every_call(b"line 1 %x 0" % i for i in ids)
     session.look()
     return session
 
@@ -342,10 +522,14 @@ def compare(driver, session):
 def report(done):
     kinds = sum((s.kinds for s in done), collections.Counter())
     errnos = sum((s.errnos for s in done), collections.Counter())
+    events = sum((s.events for s in done), collections.Counter())
     for kind, n in sorted(kinds.items()):
         print("%-24s %8d" % (kind, n))
     for errno, n in sorted(errnos.items()):
         print("%-24s %8d" % ("refused with -%d" % errno, n))
+    for event in ("IAR that gave an ID", "  of these, preemptions",
+                  "EOIR that cleared a bit", "SGI write that latched", "signal not 0"):
+        print("%-24s %8d" % (event, events[event]))
     print("%d calls compared, %d of them refused, and all words %d times; none differ"
           % (sum(kinds.values()), sum(errnos.values()),
              sum(s.lines.count(b"words") for s in done)))
@@ -354,6 +538,8 @@ def report(done):
 def every_session(seed, wanted):
     yield every_offset(64)
     yield every_offset(1024)
+    yield every_priority()
+    yield every_chain()
     calls = 0
     while calls < wanted:
         session = random_session(seed, min(10000, 2 * wanted))
