@@ -7,6 +7,7 @@
 #include <time.h>
 
 #include "../plain_sound.h"
+#include "../random_numbers.h"
 
 enum { STATES = 100000, CALLS_EACH = 9, ROUNDS = 2000, CALLS = 100, NONE = 1023 };
 
@@ -154,14 +155,6 @@ static int64_t plain_write(uint32_t *w, size_t v, uint64_t encoding, uint64_t va
 }
 
 /* ---- random sound states */
-
-static uint32_t next(void) {
-    static uint64_t x = 88172645463325252u;
-    x ^= x << 13;
-    x ^= x >> 7;
-    x ^= x << 17;
-    return (uint32_t)(x >> 16);
-}
 
 /* true but for once in `n` times */
 static bool mostly(uint32_t n) { return next() % n != 0; }

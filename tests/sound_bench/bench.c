@@ -7,20 +7,13 @@
 #include <time.h>
 
 #include "../plain_sound.h"
+#include "../random_numbers.h"
 
 enum { STATES = 300000, CHANGED = 3, ROUNDS = 600, CALLS = 2000 };
 
 extern bool vgic_is_sound(const uint32_t *words, size_t length);
 
 /* ---- random states, most of them sound */
-
-static uint32_t next(void) {
-    static uint64_t x = 88172645463325252u;
-    x ^= x << 13;
-    x ^= x >> 7;
-    x ^= x << 17;
-    return (uint32_t)(x >> 16);
-}
 
 static void draw(uint32_t *w) {
     memset(w, 0, LENGTH * sizeof *w);
