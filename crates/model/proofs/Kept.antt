@@ -1,4 +1,4 @@
--- Making, adding a vCPU, starting and stopping one, the count, initialising, and gets leave a sound state sound.
+-- Making, adding a vCPU, starting and stopping one, the count and initialising leave a sound state sound; any call does, if what it leaves where its tests pass is sound.
 use Prim.Native.Nat.{ℕ, _+_, _-_, _/_, _%_, _≤_, _<_}
 use mathlib.Core.Path.{_≡_, refl, sym, _∙_}
 use mathlib.Core.Bool.{Bool, true, false, not, cond, _||_}
@@ -6,17 +6,15 @@ use mathlib.Core.List.{List}
 use mathlib.Core.Logic.{⊎-elim}
 use native.Mathlib.Decide.{ℕ-discrete}
 use native.Mathlib.Omega.{arith}
-use borrow.Author.Tests.{eqb-true, eqb-false, eq-eqb, ltb-true, lt-ltb, le-leb, not-true}
+use borrow.Author.Tests.{eqb-false, eq-eqb, ltb-true, lt-ltb, le-leb}
 use lib.Dec.{eqb, ltb}
 use lib.ListN.{length, getD, set, length-set}
 use lib.Seq.{getD-set-same, getD-set-other}
 use Rattle.model.specs.Words.{val, within}
 use Rattle.model.specs.Layout.{stateLength, word, initialised, isInitialised, count, countAt, vcpus, vcpusAt, block, affinity, affinityAt, bprAt, sgiEdgesAt, runningAt}
 use Rattle.model.specs.Sound.{entry, freshBits, freshHeaderBits, freshBlockBits, fits, isCount, setup, isAffinity, unused, vcpuOk, sound}
-use Rattle.model.specs.Attributes.{groupOf}
-use Rattle.model.specs.Calls.{Call, make, addVcpu, setRunning, getAttribute, setAttribute, Lent, anyState, aDevice, aBuffer, aRecord, lentTo, acceptable, setChecks, checks, vcpuAdded, initialisedNext, setState, next, call}
-use Rattle.model.specs.declared.AttributeGroup.the-variants.{Count, Initialise}
-use Rattle.model.proofs.Tests.{both, or-right, below-at}
+use Rattle.model.specs.Calls.{Call, make, Lent, anyState, aDevice, aBuffer, aRecord, lentTo, acceptable, checks, vcpuAdded, initialisedNext, next, call}
+use Rattle.model.proofs.Tests.{or-right, below-at}
 use Rattle.model.proofs.Within.{zero-fits, fits-none}
 use Rattle.model.proofs.Soundness.{Sound, open-sound, close-sound, sound-length, is-count, setup-mark, setup-vcpus, setup-counted, word-fresh, word-used, ready, close-vcpu, vcpu-kept}
 use Rattle.model.proofs.Affinities.{affinity-fits}
@@ -27,7 +25,7 @@ use Rattle.model.proofs.Stores.{stored, store-sound, block-store}
 
 -- ---- a device that is not initialised
 
-not-marked : (s : List ℕ) → Sound s → isInitialised s ≡ false → initialised s ≡ 0
+pub not-marked : (s : List ℕ) → Sound s → isInitialised s ≡ false → initialised s ≡ 0
 not-marked s h e = omega (arith, setup-mark _ _ _ (h .set-up), eqb-false (initialised s) 1 e)
 
 start-set-up : (c n : ℕ) → n ≤ 8 → (eqb c 0 || isCount c) ≡ true → setup 0 c n ≡ true
@@ -214,39 +212,9 @@ pub make-sound : (s : List ℕ) → IsGranted make s → sound (call make s .sta
 unfolding next
 make-sound s g = rw (g .state) made-sound
 
-initialise-sound : (s : List ℕ) → sound s ≡ true → (isInitialised s || ltb 0 (vcpus s)) ≡ true → sound (initialisedNext s) ≡ true
+pub initialise-sound : (s : List ℕ) → sound s ≡ true → (isInitialised s || ltb 0 (vcpus s)) ≡ true → sound (initialisedNext s) ≡ true
 initialise-sound s h p = go (isInitialised s) refl
   where
     go : (b : Bool) → isInitialised s ≡ b → sound (initialisedNext s) ≡ true
     go true e = unfold initialisedNext in (rw e h)
     go false e = initialise-leaves-fresh s h (not-marked s (open-sound s h) e) (ltb-true 0 (vcpus s) (rw e at p)) .1
-
--- the calls that set a device up, and the gets
-pub data SetUp : Call → Type 0 where
-  makes : SetUp make
-  adds : (a : ℕ) → SetUp (addVcpu a)
-  runs : (v : ℕ) (on : Bool) → SetUp (setRunning v on)
-  gets : (g a : ℕ) → SetUp (getAttribute g a)
-  counts : (g a x : ℕ) → groupOf g ≡ Count → SetUp (setAttribute g a x)
-  initialises : (g a x : ℕ) → groupOf g ≡ Initialise → SetUp (setAttribute g a x)
-
-setup-next : {c : Call} (s : List ℕ) → SetUp c → sound s ≡ true → Passed (checks c s) → sound (next c s) ≡ true
-unfolding checks setChecks next setState
-setup-next s makes h p = made-sound
-setup-next s (adds a) h p =
-    close-sound _ (added-sound s a (open-sound s h) (record {
-      start = not-marked s (open-sound s h) (not-true _ (p .0));
-      valid = p .1 .0;
-      new = p .1 .1 .0;
-      room = ltb-true _ _ (p .1 .1 .1 .0);
-    }))
-setup-next s (runs v on) h p = close-sound _ (running-sound s v on (open-sound s h) (eqb-true _ _ (p .0)) (ltb-true _ _ (p .1 .0)))
-setup-next s (gets g a) h p = h
-setup-next s (counts g a x e) h p =
-    let q = rw e at p in
-    rw e (close-sound _ (counted-sound s x (open-sound s h) (not-marked s (open-sound s h) (not-true _ (both (eqb (count s) 0) _ (q .1 .0) .1))) (q .0)))
-setup-next s (initialises g a x e) h p = let q = rw e at p in rw e (initialise-sound s h (q .1 .0))
-
--- each of them keeps a sound state sound
-pub setup-kept : (c : Call) (s : List ℕ) → SetUp c → sound s ≡ true → sound (call c s .state) ≡ true
-setup-kept c s u h = kept c s h (setup-next s u h)

@@ -28,6 +28,8 @@ pub mod Asked
 pub mod Restores
 pub mod Recorded
 pub mod ReadsBack
+pub mod Loaded
+pub mod SoundKept
 pub mod Premises
 pub mod Demand
 pub mod Rows

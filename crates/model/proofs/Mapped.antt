@@ -1,4 +1,4 @@
--- A guest's access to a memory-mapped register, a line change, and a get or set of groups 1, 5 and 7 leave a sound state sound.
+-- A guest's write to a memory-mapped register, and a set of groups 1, 5 and 7, leave a sound, initialised device sound.
 use Prim.Native.Nat.{ℕ, _/_, _%_, _^_, _<_}
 use mathlib.Core.Path.{_≡_, refl}
 use mathlib.Core.Bool.{Bool, true, false, cond}
@@ -7,10 +7,8 @@ use native.Mathlib.Omega.{arith}
 use borrow.Author.Tests.{eqb-true, ltb-true}
 use lib.Dec.{eqb, ltb}
 use Rattle.model.specs.Layout.{vcpus}
-use Rattle.model.specs.Sound.{sound}
 use Rattle.model.specs.Registers.{Access, whole, one, none, access, byByte, banks, wordsOf, decode, rows, seenBy, writePriority, writeAccess, guestWrite}
-use Rattle.model.specs.Attributes.{high, low, indexOf, groupOf, numberOk, affinityKnown, mappedItem, mapped, item, itemWrite}
-use Rattle.model.specs.Calls.{Call, changeLine, readDistributor, writeDistributor, readFrame, writeFrame, getAttribute, setAttribute, guestChecks, frameChecks, registerChecks, setChecks, checks, setState, next, call}
+use Rattle.model.specs.Attributes.{high, low, indexOf, numberOk, affinityKnown, mappedItem, mapped, item, itemWrite}
 use Rattle.model.specs.declared.By.the-variants as by
 use Rattle.model.specs.declared.View.{View}
 use Rattle.model.specs.declared.View.the-variants as view
@@ -19,14 +17,12 @@ use Rattle.model.specs.declared.Register.{Register}
 use Rattle.model.specs.declared.Register.the-variants.{Fixed, Control, Typer, Iidr, Status, Bits, Priority, Config, Route, FrameTyper, FrameAffinity}
 use Rattle.model.specs.declared.Decoded.{Decoded}
 use Rattle.model.specs.declared.Decoded.the-variants.{Listed, Unlisted}
-use Rattle.model.specs.declared.RegisterGroup.the-variants.{Distributor, Lines}
+use Rattle.model.specs.declared.RegisterGroup.the-variants.{Lines}
 use Rattle.model.specs.declared.Item.the-variants as items
 use Rattle.model.proofs.Tests.{both}
-use Rattle.model.proofs.Soundness.{Sound, close-sound, Ready, ready, stopped-mark}
-use Rattle.model.proofs.Refused.{Passed}
+use Rattle.model.proofs.Soundness.{Sound, Ready}
 use Rattle.model.proofs.Decode.{decode-words}
-use Rattle.model.proofs.Writes.{ready-is-sound, bits-sound, priority-sound, write-sound, line-sound}
-use Rattle.model.proofs.Kept.{kept}
+use Rattle.model.proofs.Writes.{ready-is-sound, bits-sound, priority-sound, write-sound}
 
 module _ (s : List ℕ) (h : Ready s) where
   -- ---- a guest's write
@@ -65,7 +61,7 @@ module _ (s : List ℕ) (h : Ready s) where
   word-sound x off (Listed r k) value l e = write-sound s h by.Attribute x off r k value l e
   word-sound x off Unlisted value l e = ready-is-sound s h
 
-  mapped-sound : (x : View) (off value : ℕ) → seenBy x < vcpus s → Sound (itemWrite s (mapped x off) value)
+  pub mapped-sound : (x : View) (off value : ℕ) → seenBy x < vcpus s → Sound (itemWrite s (mapped x off) value)
   unfolding mapped itemWrite
   mapped-sound x off value l = step (eqb (off % 4) 0)
     where
@@ -74,7 +70,7 @@ module _ (s : List ℕ) (h : Ready s) where
       step false = ready-is-sound s h
 
   -- group 7: a frame's PPIs, or a word of SPIs
-  lines-sound : (a value : ℕ) → numberOk Lines a ≡ true → affinityKnown Lines a s ≡ true → Sound (itemWrite s (item Lines a s) value)
+  pub lines-sound : (a value : ℕ) → numberOk Lines a ≡ true → affinityKnown Lines a s ≡ true → Sound (itemWrite s (item Lines a s) value)
   unfolding numberOk affinityKnown item itemWrite
   lines-sound a value n k =
       let few = eqb-true (low a / 1024) 0 (both (eqb (low a / 1024) 0) (eqb (low a % 1024 % 32) 0) n .0) in
@@ -84,44 +80,3 @@ module _ (s : List ℕ) (h : Ready s) where
           → Sound (itemWrite s (cond b (items.Mapped (view.Frame (indexOf s (high a))) (Bits flags.Lines) 0) (items.Mapped view.Distributor (Bits flags.Lines) (low a / 32))) value)
       step true few l = bits-sound s h by.Attribute (view.Frame (indexOf s (high a))) flags.Lines 0 value (unfold seenBy in (ltb-true (indexOf s (high a)) (vcpus s) l)) (unfold banks in (omega arith))
       step false few l = bits-sound s h by.Attribute view.Distributor flags.Lines (low a / 32) value (unfold seenBy in (h .some)) (unfold banks in (omega arith))
-
--- ---- the calls
-
--- the groups of memory-mapped registers and lines
-pub data MappedGroup : ℕ → Type 0 where
-  distributor : MappedGroup 1
-  redistributor : MappedGroup 5
-  lines : MappedGroup 7
-
-pub data Mapped : Call → Type 0 where
-  readsDistributor : (v off size : ℕ) → Mapped (readDistributor v off size)
-  writesDistributor : (v off size x : ℕ) → Mapped (writeDistributor v off size x)
-  readsFrame : (v f off size : ℕ) → Mapped (readFrame v f off size)
-  writesFrame : (v f off size x : ℕ) → Mapped (writeFrame v f off size x)
-  changesLine : (v id : ℕ) (level : Bool) → Mapped (changeLine v id level)
-  gets : {g : ℕ} (a : ℕ) → MappedGroup g → Mapped (getAttribute g a)
-  sets : {g : ℕ} (a x : ℕ) → MappedGroup g → Mapped (setAttribute g a x)
-
-set-next : {g : ℕ} (a x : ℕ) (s : List ℕ) → MappedGroup g → sound s ≡ true → Passed (checks (setAttribute g a x) s) → sound (next (setAttribute g a x) s) ≡ true
-unfolding groupOf checks setChecks registerChecks next setState item affinityKnown seenBy
-set-next a x s distributor h p = let r = ready s h (stopped-mark s (p .1 .1 .0)) in close-sound _ (mapped-sound s r view.Distributor (low a) x (r .some))
-set-next a x s redistributor h p =
-    let r = ready s h (stopped-mark s (p .1 .1 .0)) in
-    close-sound _ (mapped-sound s r (view.Frame (indexOf s (high a))) (low a) x (ltb-true (indexOf s (high a)) (vcpus s) (p .1 .0)))
-set-next a x s lines h p = let r = ready s h (stopped-mark s (p .1 .1 .0)) in close-sound _ (lines-sound s r a x (p .0) (p .1 .0))
-
-mapped-next : {c : Call} (s : List ℕ) → Mapped c → sound s ≡ true → Passed (checks c s) → sound (next c s) ≡ true
-unfolding checks guestChecks frameChecks next seenBy
-mapped-next s (readsDistributor v off size) h p = h
-mapped-next s (writesDistributor v off size x) h p = let r = ready s h (eqb-true _ _ (p .0)) in close-sound _ (guest-write-sound s r view.Distributor off size x (r .some))
-mapped-next s (readsFrame v f off size) h p = h
-mapped-next s (writesFrame v f off size x) h p =
-    let r = ready s h (eqb-true _ _ (p .0)) in
-    close-sound _ (guest-write-sound s r (view.Frame f) off size x (ltb-true f (vcpus s) (p .1 .1 .0)))
-mapped-next s (changesLine v id level) h p = close-sound _ (line-sound s (ready s h (eqb-true _ _ (p .0))) v id level (p .1 .0))
-mapped-next s (gets a g) h p = h
-mapped-next s (sets a x g) h p = set-next a x s g h p
-
--- each of them keeps a sound state sound
-pub mapped-kept : (c : Call) (s : List ℕ) → Mapped c → sound s ≡ true → sound (call c s .state) ≡ true
-mapped-kept c s u h = kept c s h (mapped-next s u h)

@@ -22,11 +22,11 @@ groups-big : (k n : ℕ) → 128 ≤ n → groupsOf (suc k) n ≡ (n % 128 + 128
 unfolding groupsOf
 groups-big k n h = rw (le-ltb n 128 h, groupsOf)
 
-read-small : (k b : ℕ) (r : List ℕ) → b < 128 → readGroups (suc k) (b ∷ r) ≡ decoded b r
+pub read-small : (k b : ℕ) (r : List ℕ) → b < 128 → readGroups (suc k) (b ∷ r) ≡ decoded b r
 unfolding readGroups
 read-small k b r h = rw (lt-ltb b 128 h, readGroups)
 
-read-big : (k b : ℕ) (r : List ℕ) → 128 ≤ b → readGroups (suc k) (b ∷ r) ≡ more b (readGroups k r)
+pub read-big : (k b : ℕ) (r : List ℕ) → 128 ≤ b → readGroups (suc k) (b ∷ r) ≡ more b (readGroups k r)
 unfolding readGroups
 read-big k b r h = rw (le-ltb b 128 h, readGroups)
 
@@ -45,7 +45,7 @@ groups-more (suc k) n h = cases (groups-more k (n / 128) (omega (arith, simp pow
 
 -- ---- a number is decoded from its own groups
 
-more-of : (b v : ℕ) (r : List ℕ) → 0 < v → b - 128 + 128 * v < 2 ^ 32 → more b (decoded v r) ≡ decoded (b - 128 + 128 * v) r
+pub more-of : (b v : ℕ) (r : List ℕ) → 0 < v → b - 128 + 128 * v < 2 ^ 32 → more b (decoded v r) ≡ decoded (b - 128 + 128 * v) r
 unfolding more
 more-of b v r p h = rw (lt-ltb 0 v p, lt-ltb (b - 128 + 128 * v) (2 ^ 32) h)
 
@@ -76,7 +76,7 @@ Bytes s = (i : ℕ) → getD s i 0 < 256
 bytes-tail : (b : ℕ) (s : List ℕ) → Bytes (b ∷ s) → Bytes s
 bytes-tail b s h i = h (suc i)
 
-read-none : (s : List ℕ) → readGroups 0 s ≡ broken
+pub read-none : (s : List ℕ) → readGroups 0 s ≡ broken
 unfolding readGroups
 read-none [] = refl
 read-none (b ∷ s) = refl

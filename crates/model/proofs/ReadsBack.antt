@@ -22,7 +22,7 @@ use Rattle.model.proofs.Readings.{is-spi}
 use Rattle.model.proofs.Listed.{Listed, groups, enables, latches, actives, pmr, ctlr, ap0r, ap1r, igrpen0, igrpen1, control, status, spi-flags, spi-lines, spi-priority, spi-config, spi-route, vcpu-status, vcpu-flags, vcpu-lines, vcpu-priority, vcpu-system, family, bpr0, bpr1}
 use Rattle.model.proofs.Places.{placeOf, namedBy, names-item, reads-place}
 use Rattle.model.proofs.Cover.{carried}
-use Rattle.model.proofs.Stores.{store-same, store-ready, store-stopped}
+use Rattle.model.proofs.Stores.{store-same, store-stopped}
 use Rattle.model.proofs.Writes.{Leaves, stores-flags, stores-priority, stores-config, stores-route, stores-enables, stores-status}
 use Rattle.model.proofs.System.{stores-pmr, stores-ctlr, stores-bpr, stores-apr, stores-igrpen}
 use Rattle.model.proofs.Restores.{fresh-ready, fresh-stopped}
@@ -80,13 +80,41 @@ module _ (s : List ℕ) (h : Ready s) where
   put-leaves (vcpu-system v igrpen0 l) x = stores-igrpen s h v 0 x l (omega arith)
   put-leaves (vcpu-system v igrpen1 l) x = stores-igrpen s h v 1 x l (omega arith)
 
+-- ---- and leaves a stopped device of the same set-up
+
+-- s is a stopped device of t's count and affinities
+pub record StoppedLike (t s : List ℕ) : Type 0 where
+  pub stopped : Stopped s
+  pub alike : Alike t s
+
+alike-then : (r s t : List ℕ) → Alike r s → Alike s t → Alike r t
+alike-then r s t a b = record {
+  same-count = b .same-count ∙ a .same-count;
+  same-number = b .same-number ∙ a .same-number;
+  same-affinities = λ v l. b .same-affinities v (rw (a .same-number) l) ∙ a .same-affinities v l;
+}
+
+pub like-itself : (t : List ℕ) → Stopped t → StoppedLike t t
+like-itself t h = record { stopped = h; alike = record { same-count = refl; same-number = refl; same-affinities = λ v l. refl } }
+
+pub put-like : (t s : List ℕ) → StoppedLike t s → {a : Attribute} → Listed t a → (v : ℕ) → StoppedLike t (itemWrite s (itemOf a s) v)
+put-like t s h {a} l v =
+    let rs = stopped-ready s (h .stopped) in
+    let there = carried t s (h .alike) l .there in
+    let p = put-leaves s rs there v in
+    let put : itemWrite s (itemOf a s) v ≡ set s (placeOf there) (p .stored) = ap (λ (j : Item). itemWrite s j v) (names-item s rs there) ∙ p .state in
+    rw put (record {
+      stopped = store-stopped s (placeOf there) (p .stored) (p .may) (h .stopped) (p .idle);
+      alike = alike-then t s _ (h .alike) (store-same s (placeOf there) (p .stored) (p .may) .alike);
+    })
+
 -- ---- the rule
 
 -- some sound, stopped device of the target's count and affinities reads v there
 unfoldable pub ReadsSo : List ℕ → Attribute → ℕ → Type 0
 ReadsSo t a v = (d : List ℕ) × Stopped d × Alike t d × (entryRead d (attributeOf a) ≡ v)
 
-alike-back : (s t : List ℕ) → Alike s t → Alike t s
+pub alike-back : (s t : List ℕ) → Alike s t → Alike t s
 alike-back s t e = record {
   same-count = sym (e .same-count);
   same-number = sym (e .same-number);
@@ -101,34 +129,19 @@ module _ (t : List ℕ) (ht : Fresh t) {a : Attribute} (m : Listed t a) (v : ℕ
   reads-so : readable t (attributeOf a) v ≡ true → ReadsSo t a v
   unfolding ReadsSo readable entryRead
   reads-so e =
-      (d, store-stopped t (placeOf m) w (p .may) (fresh-stopped t ht) (p .idle), same, there)
+      (d, p .stopped, p .alike, ap (itemRead d) named ∙ eqb-true _ v (both (takes (itemOf a t) v) _ e .1))
     where
-      p : Leaves t (placeOf m) (itemWrite t (namedBy m) v)
-      p = put-leaves t rt m v
-
-      w : ℕ
-      w = p .stored
-
       d : List ℕ
-      d = set t (placeOf m) w
+      d = itemWrite t (itemOf a t) v
 
-      same : Alike t d
-      same = store-same t (placeOf m) w (p .may) .alike
+      p : StoppedLike t d
+      p = put-like t t (like-itself t (fresh-stopped t ht)) m v
 
-      -- the put leaves it, and it has the attribute at the same item
-      put : itemWrite t (itemOf a t) v ≡ d
-      put = ap (λ (j : Item). itemWrite t j v) (names-item t rt m) ∙ p .state
-
+      -- it has the attribute at the same item
       named : itemOf a d ≡ itemOf a t
       named =
-          let c = carried t d same m in
-          names-item d (store-ready t (placeOf m) w (p .may) rt) (c .there) ∙ c .names ∙ sym (names-item t rt m)
-
-      back : itemRead (itemWrite t (itemOf a t) v) (itemOf a t) ≡ v
-      back = eqb-true _ v (both (takes (itemOf a t) v) _ e .1)
-
-      there : itemRead d (itemOf a d) ≡ v
-      there = rw named (rw put at back)
+          let c = carried t d (p .alike) m in
+          names-item d (stopped-ready d (p .stopped)) (c .there) ∙ c .names ∙ sym (names-item t rt m)
 
   -- a value that such a device reads is taken and reads back
   so-readable : ReadsSo t a v → readable t (attributeOf a) v ≡ true

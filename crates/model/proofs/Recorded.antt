@@ -56,7 +56,7 @@ module _ (f s : List ℕ) (same : Alike f s) where
 
 -- ---- what the entries of a stopped device are: small numbers of the header, and listed attributes
 
-abbrev All : (Entry → Type 0) → List Entry → Type 0
+abbrev pub All : (Entry → Type 0) → List Entry → Type 0
 All P [] = Unit {0}
 All P (e ∷ es) = P e × All P es
 
@@ -73,7 +73,7 @@ all-map : (P : Entry → Type 0) (l : List Attribute) → ((a : Attribute) → L
 all-map P [] h = tt
 all-map P (a ∷ l) h = (h a (List·Memᴰ·head refl), all-map P l (λ b m. h b (List·Memᴰ·tail m)))
 
-abbrev Good : List ℕ → Entry → Type 0
+abbrev pub Good : List ℕ → Entry → Type 0
 Good f (header x) = x < 2 ^ 32
 Good f (attributeOf a) = Listed f a
 

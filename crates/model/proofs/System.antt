@@ -1,4 +1,4 @@
--- A guest's access to a system register, and a query of the signal, leave a sound state sound.
+-- A guest's access to a system register, and a set of group 6, leave a sound, initialised device sound.
 use Prim.Native.Nat.{ℕ, zero, suc, _+_, _*_, _/_, _%_, _^_, _≤_, _<_, min}
 use mathlib.Core.Path.{_≡_, refl}
 use mathlib.Core.Bool.{Bool, true, false, cond, _&&_}
@@ -6,14 +6,15 @@ use mathlib.Core.Logic.{⊎-elim}
 use mathlib.Core.List.{List}
 use native.Mathlib.Omega.{arith}
 use native.Mathlib.Decide.{decLt}
-use borrow.Author.Tests.{eqb-true, lt-ltb, ltb-true}
+use borrow.Author.Tests.{lt-ltb, ltb-true}
 use lib.ListN.{getD, set}
 use Rattle.model.specs.Words.{bit, within, withBit, allBelow}
 use Rattle.model.specs.Layout.{word, count, vcpus, block, pmrAt, ctlrAt, bprAt, aprAt, igrpenAt, latchField, activeField}
 use Rattle.model.specs.Interrupts.{isPrivate, isSpi, exists, setFlag}
-use Rattle.model.specs.Sound.{fits, blockBits, sound}
-use Rattle.model.specs.Interface.{system, plainGroup, readGroup, writeGroup, groupIn, plainWrite, rank, nothing, rankId, best, runningLevel, gives, offered, levelOf, setLevel, taken, acknowledged, eoiMode, dropped, ended, deactivated, sgiId, reaches, sgiSent, idOf, systemReadNext, systemWrite}
-use Rattle.model.specs.Calls.{Call, querySignal, readSystem, writeSystem, guestChecks, checks, systemReadState, systemWriteState, next, call}
+use Rattle.model.specs.Sound.{fits, blockBits}
+use Rattle.model.specs.Interface.{plainGroup, readGroup, writeGroup, groupIn, plainWrite, rank, nothing, rankId, best, runningLevel, gives, offered, levelOf, setLevel, taken, acknowledged, eoiMode, dropped, ended, deactivated, sgiId, reaches, sgiSent, idOf, systemReadNext, systemWrite}
+use Rattle.model.specs.Attributes.{systemItem, itemWrite}
+use Rattle.model.specs.Calls.{systemReadState, systemWriteState}
 use Rattle.model.specs.declared.Plain.{Plain}
 use Rattle.model.specs.declared.Plain.the-variants.{Pmr, Bpr, Apr, Ctlr, Sre, Igrpen}
 use Rattle.model.specs.declared.Readable.{Readable}
@@ -24,14 +25,11 @@ use Rattle.model.specs.declared.SystemRegister.{SystemRegister}
 use Rattle.model.specs.declared.SystemRegister.the-variants.{Both, Read, Write, Unnamed}
 use Rattle.model.proofs.Tests.{both, either, below-at}
 use Rattle.model.proofs.Bits.{gather-lt}
-use Rattle.model.proofs.Soundness.{Sound, close-sound, Ready, ready}
-use Rattle.model.proofs.Refused.{Passed}
-use Rattle.model.proofs.Decode.{system-group}
+use Rattle.model.proofs.Soundness.{Sound, Ready}
 use Rattle.model.proofs.Best.{best-found, rank-id, rank-below}
 use Rattle.model.proofs.Fields.{within-spi}
 use Rattle.model.proofs.Stores.{Free}
 use Rattle.model.proofs.Writes.{low-fits, Leaves, Present, own, shared, ready-is-sound, leaves-sound, leaves-ready, leaves-number, leaves-present, stores-block, stores-no-line, latched}
-use Rattle.model.proofs.Kept.{kept}
 
 -- the bits of PMR and of CTLR
 pmr-fits : (x : ℕ) → fits (x % 256 / 8 * 8) 0xf8 ≡ true
@@ -193,33 +191,25 @@ module _ (s : List ℕ) (h : Ready s) (v : ℕ) (l : v < vcpus s) where
   writable-sound Sgi1r x m = sent-sound false x
   writable-sound Sgi0r x m = sent-sound true x
 
-  read-state-sound : (r : SystemRegister) → groupIn r < 2 → Sound (systemReadState r v s)
+  pub read-state-sound : (r : SystemRegister) → groupIn r < 2 → Sound (systemReadState r v s)
   unfolding systemReadState
   read-state-sound (Both p) m = ready-is-sound s h
   read-state-sound (Read r) m = readable-sound r m
   read-state-sound (Write w) m = ready-is-sound s h
   read-state-sound Unnamed m = ready-is-sound s h
 
-  write-state-sound : (r : SystemRegister) (x : ℕ) → groupIn r < 2 → Sound (systemWriteState r v x s)
+  pub write-state-sound : (r : SystemRegister) (x : ℕ) → groupIn r < 2 → Sound (systemWriteState r v x s)
   unfolding systemWriteState
   write-state-sound (Both p) x m = plain-sound p x m
   write-state-sound (Read r) x m = ready-is-sound s h
   write-state-sound (Write w) x m = writable-sound w x m
   write-state-sound Unnamed x m = ready-is-sound s h
 
--- ---- the calls
+  -- ---- a set of group 6
 
-pub data System : Call → Type 0 where
-  reads : (v e : ℕ) → System (readSystem v e)
-  writes : (v e x : ℕ) → System (writeSystem v e x)
-  queries : (v : ℕ) → System (querySignal v)
-
-system-next : {c : Call} (s : List ℕ) → System c → sound s ≡ true → Passed (checks c s) → sound (next c s) ≡ true
-unfolding checks guestChecks next
-system-next s (reads v e) h p = close-sound _ (read-state-sound s (ready s h (eqb-true _ _ (p .0))) v (ltb-true v (vcpus s) (p .1 .0)) (system e) (system-group e))
-system-next s (writes v e x) h p = close-sound _ (write-state-sound s (ready s h (eqb-true _ _ (p .0))) v (ltb-true v (vcpus s) (p .1 .0)) (system e) x (system-group e))
-system-next s (queries v) h p = h
-
--- each of them keeps a sound state sound
-pub system-kept : (c : Call) (s : List ℕ) → System c → sound s ≡ true → sound (call c s .state) ≡ true
-system-kept c s u h = kept c s h (system-next s u h)
+  pub system-item-sound : (r : SystemRegister) (x : ℕ) → groupIn r < 2 → Sound (itemWrite s (systemItem v r) x)
+  unfolding systemItem itemWrite
+  system-item-sound (Both p) x m = plain-sound p x m
+  system-item-sound (Read r) x m = ready-is-sound s h
+  system-item-sound (Write w) x m = ready-is-sound s h
+  system-item-sound Unnamed x m = ready-is-sound s h
