@@ -89,13 +89,13 @@ module _ (s : List ℕ) (x : View) (at : ℕ) where
 -- ---- writing, through the lent bank
 
 module _ (s last : List ℕ) (x : View) (at : ℕ) (size : length s ≡ stateLength) where
-  pub writes-flags : (by : By) (f : Flags) (rule : Rule) (field from k value m : ℕ)
+  pub writes-flags : (by : By) (f : Flags) (rule : Rule) (field from k value m w : ℕ)
       → at ≡ bank (seenBy x) k → at + 16 ≤ 768 → rule ≡ ruleFor by (flags f) → field ≡ flags f .field → field < 16 → from ≡ flags f .from
-      → m ≡ flagsMeant s x from k → last ≡ set (midOf at (at + 16 - at) s) field (under rule (word (midOf at (at + 16 - at) s) field) value m)
+      → m ≡ flagsMeant s x from k → w ≡ under rule (word s (at + field)) value m → last ≡ set (midOf at (at + 16 - at) s) field w
       → putMid at (at + 16 - at) s last ≡ writeFlags s x (flags f .field) (flags f .from) (ruleFor by (flags f)) k value
   unfolding flagsMeant writeFlags under
-  writes-flags by f rule field from k value m e n a b l d q p =
-      rw (one-stored at (at + 16) s last field _ (omega arith) (omega arith) p, at-mid at (at + 16 - at) s field (omega arith), ← a, ← b, ← d, e)
+  writes-flags by f rule field from k value m w e n a b l d q r p =
+      rw (one-stored at (at + 16) s last field w (omega arith) (omega arith) p, r, ← a, ← b, ← d, e)
       (ap (set s (bank (seenBy x) k + field)) (gather-same 32 _ _ (λ i j. rw (q, bit-gather 32 (λ h. has s x (32 * k + h) && leb from (32 * k + h)) i j, flag-bit s (seenBy x) k field i j))))
 
   pub writes-priority : (bytes : Bytes) (k value b m : ℕ) → at ≡ bank (seenBy x) (k / 8) → at + 16 ≤ 768

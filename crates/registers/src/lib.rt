@@ -42,7 +42,7 @@ ghost use Rattle.model.specs.Layout.{stateLength, mostVcpus, word, count, bank}
 ghost use Rattle.model.specs.Sound.{sound};
 ghost use Rattle.model.specs.Registers.{banks, wordsOf, flags, shownTo, ruleFor, has, seenBy, readFlags, readPriority, readConfig, readRoute, statusAt, frameTyper, read, writeFlags, writePriority, writeConfig, writeRoute, writtenStatus, write};
 ghost use Rattle.model.specs.declared.View.the-variants.{Frame};
-ghost use Rattle.words.specs.Words.{under, priorityUnder};
+ghost use Rattle.words.specs.Words.{priorityUnder};
 ghost use Rattle.registers.specs.Words.{flagsMeant, prioritiesMeant, edgesMeant, theirs, shownIn, edgesUnder, names, Byte};
 
 // The bytes of a word that an access names.
@@ -221,12 +221,12 @@ fn read_flags(s: &[u32], by: By, view: View, f: Flags, k: usize) -> u32
     shown & flags_meant(s, view, least_of(f), k)
 }
 
-// Writes the flags in word `k` of a bank that is lent.
-fn put_flags(bank: &mut [u32], k: usize, rule: Rule, x: u32, m: u32)
+// Writes word `k` of a bank that is lent, 32 flags; the other words stay.
+fn put_flags(bank: &mut [u32], k: usize, w: u32)
     requires { ⌜ (length (now bank) ≡ 16) × (k < 16) ⌝ }
-    ensures { λ _. ⌜ now (bank .exit) ≡ set (now (bank .entry)) k (under rule (word (now (bank .entry)) k) x m) ⌝ }
+    ensures { λ _. ⌜ now (bank .exit) ≡ set (now (bank .entry)) k w ⌝ }
 {
-    bank[k] = written_under(rule, bank[k], x, m);
+    bank[k] = w;
 }
 
 // Writes word `k` of a register of flags.
@@ -236,13 +236,9 @@ fn write_flags(s: &mut [u32], by: By, view: View, f: Flags, k: usize, x: u32)
 {
     let m = flags_meant(s, view, least_of(f), k);
     let at = bank_of(view, k);
-    put_flags(
-        &mut s[at..at + BANK_LENGTH],
-        field_of(f),
-        rule_for(by, f),
-        x,
-        m,
-    );
+    let field = field_of(f);
+    let w = written_under(rule_for(by, f), s[at + field], x, m);
+    put_flags(&mut s[at..at + BANK_LENGTH], field, w);
 }
 
 // ---- four priorities

@@ -26,6 +26,6 @@ pub done-already : (s : List ℕ) → initialised s ≡ 1 → s ≡ initialisedN
 unfolding initialisedNext
 done-already s e = rw e
 
-pub done-now : (s : List ℕ) (c : ℕ) → ¬ (initialised s ≡ 1) → c ≡ cond (eqb (count s) 0) 256 (count s) → set (set s 1 c) 0 1 ≡ initialisedNext s
+pub done-now : (s last : List ℕ) (c : ℕ) → ¬ (initialised s ≡ 1) → c ≡ cond (eqb (count s) 0) 256 (count s) → last ≡ set (set s 1 c) 0 1 → last ≡ initialisedNext s
 unfolding initialisedNext
-done-now s c n e = rw (ne-eqb (initialised s) 1 n, e)
+done-now s last c n e p = rw (p, ne-eqb (initialised s) 1 n, e)

@@ -175,6 +175,15 @@ fn count_or_default(c: u32) -> u32
     if c == 0 { 256 } else { c }
 }
 
+// The two words that initialise writes.
+fn mark_initialised(s: &mut [u32], count: u32)
+    requires { ⌜ length (now s) ≡ stateLength ⌝ }
+    ensures { λ _. ⌜ now (s .exit) ≡ set (set (now (s .entry)) 1 count) 0 1 ⌝ }
+{
+    s[COUNT] = count;
+    s[INITIALISED] = 1;
+}
+
 // No change if done already.
 fn write_initialised(s: &mut [u32])
     requires { ⌜ length (now s) ≡ stateLength ⌝ }
@@ -183,8 +192,8 @@ fn write_initialised(s: &mut [u32])
     if s[INITIALISED] == 1 {
         return;
     }
-    s[COUNT] = count_or_default(s[COUNT]);
-    s[INITIALISED] = 1;
+    let count = count_or_default(s[COUNT]);
+    mark_initialised(s, count);
 }
 
 // Whether the device is initialised, or has a vCPU.

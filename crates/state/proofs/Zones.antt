@@ -1,7 +1,7 @@
 -- The parts of the state, each with its masks: what the passes of `used_fits` and `fresh_fits` find is what the definitions say of each word.
 use Prim.Native.Nat.{ℕ, _+_, _-_, _*_, _/_, _%_, _^_, _≤_, _<_}
 use mathlib.Core.Path.{_≡_, _∙_}
-use mathlib.Core.Bool.{true}
+use mathlib.Core.Bool.{Bool, true, _&&_}
 use mathlib.Core.List.{List, [], _∷_}
 use native.Mathlib.Nat.{mod-one}
 use native.Mathlib.Decide.{decLt}
@@ -11,8 +11,8 @@ use lib.Bits.{bitOr}
 use lib.Dec.{eqb, ltb}
 use lib.ListN.{length, getD}
 use Rattle.model.specs.Words.{every}
-use Rattle.model.specs.Layout.{block, routeAt}
-use Rattle.model.specs.Sound.{fits, usedBits, freshBits, entry, headerBits, blockBits, bankBits, lastBankBits, freshHeaderBits, freshBlockBits}
+use Rattle.model.specs.Layout.{vcpus, isInitialised, block, routeAt}
+use Rattle.model.specs.Sound.{fits, usedBits, freshBits, entry, headerBits, blockBits, bankBits, lastBankBits, freshHeaderBits, freshBlockBits, fresh}
 use Rattle.model.proofs.Soundness.{Count}
 use Rattle.model.proofs.Masks.{entry-there, entry-absent, header-bits, block-bits, fresh-block-bits, bank-bits, last-bits, route-bits, route-none}
 use Rattle.state.specs.Clear.{Apart, Clear}
@@ -145,3 +145,8 @@ module _ (n : ℕ) (few : n ≤ 8) where
       (clear-fit words _ _ z₁ oh fresh-header)
       (clear-fit words _ _ z₂ ov fresh-block))
       (clear-fit words _ _ z₃ on fresh-none))
+
+-- with the initialised mark, the device is fresh
+pub marked-fresh : (s : List ℕ) (n : ℕ) (b : Bool) → n ≡ vcpus s → b ≡ every (λ k w. fits w (freshBits n k)) 0 s → (isInitialised s && b) ≡ fresh s
+unfolding fresh
+marked-fresh s n b e f = rw (f, e)

@@ -28,7 +28,7 @@ ghost use lib.ListN.{length, set};
 ghost use Rattle.model.specs.Words.{withBit, lowest, allBelow, every};
 ghost use Rattle.model.specs.Layout.{stateLength, mostVcpus, word, vcpus, affinity, running, block, bank};
 ghost use Rattle.model.specs.Interrupts.{idsBelow, isSpi, setFlag};
-ghost use Rattle.model.specs.Sound.{usedBits, freshBits, fits, wordOk, isCount, setup, isAffinity, unused, vcpuOk, sound, stopped};
+ghost use Rattle.model.specs.Sound.{usedBits, freshBits, fits, wordOk, isCount, setup, isAffinity, unused, vcpuOk, sound, stopped, fresh};
 ghost use Rattle.model.specs.Refusals.{firstFailing};
 ghost use Rattle.model.specs.Calls.{vcpuChecks};
 ghost use Rattle.model.specs.declared.Errno.the-variants.{Efault};
@@ -66,7 +66,7 @@ pub fn is_count(c: u64) -> bool
 // ---- which SPIs exist
 
 // The SPIs of a count are from 32 to below this.
-fn ids_below(count: u32) -> usize
+pub fn ids_below(count: u32) -> usize
     ensures { λ r. ⌜ r ≡ idsBelow count ⌝ }
 {
     if count < 1020 { count as usize } else { 1020 }
@@ -302,7 +302,7 @@ fn used_fits(s: &[u32], count: usize, n: usize) -> bool
 }
 
 // Each word has only the bits that it may have in a fresh device.
-pub fn fresh_fits(s: &[u32], n: usize) -> bool
+fn fresh_fits(s: &[u32], n: usize) -> bool
     requires { ⌜ (length (now s) ≡ stateLength) × (n ≤ mostVcpus) ⌝ }
     ensures { λ r. ⌜ r ≡ every (λ k w. fits w (freshBits n k)) 0 (now (s .entry)) ⌝ }
 {
@@ -311,6 +311,15 @@ pub fn fresh_fits(s: &[u32], n: usize) -> bool
         | misfit(s, BLOCKS, blocks_end, &masks::FRESH_BLOCK)
         | misfit(s, blocks_end, STATE_LENGTH, &masks::ABSENT);
     joined == 0
+}
+
+// Whether the device is just initialised.
+pub fn is_fresh(s: &[u32]) -> bool
+    requires { ⌜ (length (now s) ≡ stateLength) × (vcpus (now s) ≤ mostVcpus) ⌝ }
+    ensures { λ r. ⌜ r ≡ fresh (now (s .entry)) ⌝ }
+{
+    let fits = fresh_fits(s, wide(s[VCPUS]));
+    (s[INITIALISED] == 1) & fits
 }
 
 // Each word has only the bits that it may have: the fresh ones before initialising.

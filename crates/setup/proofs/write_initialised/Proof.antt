@@ -7,5 +7,5 @@ use Rattle.setup.proofs.write_initialised.Tie as tie
 pub write-initialised-spec : {M : Type 1} → statement M
 write-initialised-spec =
     tie.close
-    (tie.spec (λ c. search needs) (λ c. search done-already) (λ c. search needs) (λ c κs. search needs) (λ c. search needs)
-    (λ c. search needs) (λ c. search needs) (λ c. search done-now))
+    (tie.spec (λ c. search needs) (λ c. search done-already) (λ c. search needs) (λ c κs. search needs) (λ c κs. search needs)
+    (λ c. search needs) (λ c. search done-now))
