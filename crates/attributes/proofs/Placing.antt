@@ -1,35 +1,42 @@
--- Where an attribute's register stands, and which word of it is meant there.
+-- Where an attribute's register stands, and what is named there.
 use Prim.Native.Nat.{ℕ, _/_, _%_, _≤_, _<_}
 use mathlib.Core.Path.{_≡_, refl, sym, _∙_}
-use mathlib.Core.Bool.{Bool, true, false, not, cond, true≢false}
+use mathlib.Core.Bool.{Bool, true, false, cond, true≢false}
 use mathlib.Core.List.{List, [], _∷_}
 use native.Mathlib.Omega.{arith}
 use borrow.Author.Tests.{lt-ltb, le-ltb, ltb-true, eq-eqb, ne-eqb, eqb-true}
 use types.Run.{OneOf, miss}
 use denote.Enum.Declared.{tagOf}
 use lib.Dec.{eqb, ltb}
-use Rattle.model.specs.Layout.{mostVcpus, vcpus}
+use Rattle.model.specs.Layout.{mostVcpus, vcpus, isInitialised}
+use Rattle.model.specs.Sound.{sound}
 use Rattle.model.specs.Registers.{decode, rows, banks, wordsOf, seenBy}
-use Rattle.model.specs.Attributes.{high, low, indexOf, isUsed, numberOk, affinityKnown, mappedItem, mapped, item, registerTakes, takes}
-use Rattle.model.specs.Calls.{value}
+use Rattle.model.specs.Interface.{system, groupIn}
+use Rattle.model.specs.Attributes.{high, low, indexOf, isUsed, numberOk, affinityKnown, mappedItem, mapped, systemItem, item}
 use Rattle.model.specs.declared.View.{View}
 use Rattle.model.specs.declared.View.the-variants as view
 use Rattle.model.specs.declared.Flags.the-variants as flags
 use Rattle.model.specs.declared.Register.{Register}
-use Rattle.model.specs.declared.Register.the-variants.{Fixed, Control, Typer, Iidr, Status, Bits, Priority, Config, Route, FrameTyper, FrameAffinity}
+use Rattle.model.specs.declared.Register.the-variants.{Bits}
 use Rattle.model.specs.declared.Decoded.{Decoded}
 use Rattle.model.specs.declared.Decoded.the-variants.{Listed, Unlisted}
-use Rattle.model.specs.declared.Item.the-variants.{Nameless}
-use Rattle.attributes.specs.declared.MappedGroup.{MappedGroup}
-use Rattle.attributes.specs.declared.MappedGroup.the-variants.{Distributor, Redistributor, Lines}
-use Rattle.model.proofs.Register.{the-type}
+use Rattle.model.specs.declared.Plain.{Plain}
+use Rattle.model.specs.declared.SystemRegister.{SystemRegister}
+use Rattle.model.specs.declared.SystemRegister.the-variants.{Both, Read, Write, Unnamed}
+use Rattle.model.specs.declared.Item.the-variants.{Mapped, System, Nameless}
+use Rattle.model.specs.declared.RegisterGroup.{RegisterGroup}
+use Rattle.model.specs.declared.RegisterGroup.the-variants.{Distributor, Redistributor, Interface, Lines}
+use Rattle.model.proofs.SystemRegister.{the-type}
 use Rattle.model.proofs.Tests.{both}
-use Rattle.model.proofs.Decode.{decode-words}
+use Rattle.model.proofs.Decode.{decode-words, system-group}
+use Rattle.model.proofs.Soundness.{sound-vcpus}
 use Rattle.state.specs.Lookup.{found}
 use Rattle.state.specs.declared.VcpuIndex.{VcpuIndex}
 use Rattle.state.specs.declared.Found.{Found}
 use Rattle.state.specs.declared.Found.the-variants.{At, Nowhere}
-use Rattle.attributes.specs.Names.{group, frameWith, placeOf, alignedAt, wordAt}
+use Rattle.interface.specs.Asked.{Usable}
+use Rattle.interface.proofs.Usable.{usable}
+use Rattle.attributes.specs.Names.{frameWith, placeOf, systemAt, itemAt, Within}
 use Rattle.attributes.specs.declared.Place.{Place}
 use Rattle.attributes.specs.declared.Place.the-variants.{In, NoVcpu}
 
@@ -63,31 +70,78 @@ module _ (s : List ℕ) (a n : ℕ) (e : n ≡ low a) where
   unfolding placeOf
   lines-shared l = rw (← e, le-ltb n 32 l)
 
--- ---- aligned words
+-- ---- what a number names
 
-pub aligned : (x : View) (n : ℕ) (d : Decoded) → n % 4 ≡ 0 → d ≡ decode (rows x) n → d ≡ alignedAt x n
-aligned x n d z e = rw (eq-eqb (n % 4) 0 z) e
+module _ (x : View) (n : ℕ) where
+  pub unaligned : ¬ (n % 4 ≡ 0) → Nameless ≡ mapped x n
+  unfolding mapped
+  unaligned z = rw (ne-eqb (n % 4) 0 z)
 
-pub unaligned : (x : View) (n : ℕ) → ¬ (n % 4 ≡ 0) → Unlisted ≡ alignedAt x n
-unaligned x n z = rw (ne-eqb (n % 4) 0 z)
+  module _ (z : n % 4 ≡ 0) (d : Decoded) (e : d ≡ decode (rows x) n) where
+    of-word : mapped x n ≡ mappedItem x d
+    unfolding mapped
+    of-word = rw (eq-eqb (n % 4) 0 z, e)
 
--- ---- an IIDR takes its own value only
+    pub listed : (r : Register) (k : ℕ) → d ≡ Listed r k → Mapped x r k ≡ mapped x n
+    unfolding mappedItem
+    listed r k h = rw (of-word, h)
 
-pub takes-any : (r : Register) (x : ℕ) → OneOf (0 ∷ 1 ∷ 2 ∷ 4 ∷ 5 ∷ 6 ∷ 7 ∷ 8 ∷ 9 ∷ 10 ∷ []) (tagOf the-type r) → true ≡ registerTakes r x
-unfolding registerTakes
-takes-any (Fixed c) x h = refl
-takes-any Control x h = refl
-takes-any Typer x h = refl
-takes-any Iidr x h = absurd (miss (0 ∷ 1 ∷ 2 ∷ 4 ∷ 5 ∷ 6 ∷ 7 ∷ 8 ∷ 9 ∷ 10 ∷ []) 3 tt h)
-takes-any Status x h = refl
-takes-any (Bits f) x h = refl
-takes-any Priority x h = refl
-takes-any Config x h = refl
-takes-any Route x h = refl
-takes-any FrameTyper x h = refl
-takes-any FrameAffinity x h = refl
+    pub unlisted : d ≡ Unlisted → Nameless ≡ mapped x n
+    unfolding mappedItem
+    unlisted h = rw (of-word, h)
 
--- ---- the place of a register, and its word there
+pub ruleset words = (unaligned, listed, unlisted)
+
+-- group 6: the distributor has no system register; a register that a guest only reads or only writes is not named
+pub no-vcpu : (x : View) (n : ℕ) → x ≡ view.Distributor → Nameless ≡ systemAt x n
+unfolding systemAt
+no-vcpu x n h = rw h
+
+module _ (x : View) (n v : ℕ) (r : SystemRegister) (h : x ≡ view.Frame v) (e : r ≡ system n) where
+  of-register : systemAt x n ≡ systemItem v r
+  unfolding systemAt
+  of-register = rw (h, e)
+
+  pub plain-named : (p : Plain) → r ≡ Both p → System v p ≡ systemAt x n
+  unfolding systemItem
+  plain-named p q = rw (of-register, q)
+
+  pub not-plain : OneOf (1 ∷ 2 ∷ 3 ∷ []) (tagOf the-type r) → Nameless ≡ systemAt x n
+  not-plain o = rw of-register (go r o)
+    where
+      go : (r : SystemRegister) → OneOf (1 ∷ 2 ∷ 3 ∷ []) (tagOf the-type r) → Nameless ≡ systemItem v r
+      go (Both p) o = absurd (miss (1 ∷ 2 ∷ 3 ∷ []) 0 tt o)
+      go (Read q) o = unfold systemItem in refl
+      go (Write w) o = unfold systemItem in refl
+      go Unnamed o = unfold systemItem in refl
+
+pub ruleset systems = (no-vcpu, plain-named, not-plain)
+
+-- ---- the functions that read and write may be given what is named
+
+mapped-within : (s : List ℕ) (x : View) (n : ℕ) → sound s ≡ true → seenBy x < mostVcpus → Within s (mapped x n)
+unfolding mapped
+mapped-within s x n h l = step (eqb (n % 4) 0) (decode (rows x) n) refl
+  where
+    step : (t : Bool) (d : Decoded) → decode (rows x) n ≡ d → Within s (cond t (mappedItem x d) Nameless)
+    step true (Listed r k) e = unfold mappedItem in (h, l, decode-words x n r k e)
+    step true Unlisted e = unfold mappedItem in tt
+    step false d e = tt
+
+system-within : (s : List ℕ) (v n : ℕ) → Usable s v → Within s (systemItem v (system n))
+system-within s v n u = step (system n) (system-group n)
+  where
+    step : (r : SystemRegister) → groupIn r < 2 → Within s (systemItem v r)
+    step (Both p) l = unfold systemItem in (u, l)
+    step (Read q) l = unfold systemItem in tt
+    step (Write w) l = unfold systemItem in tt
+    step Unnamed l = unfold systemItem in tt
+
+lines-within : (s : List ℕ) (x : View) (k : ℕ) → sound s ≡ true → seenBy x < mostVcpus → k < banks x → Within s (Mapped x (Bits flags.Lines) k)
+unfolding wordsOf
+lines-within s x k h l b = (h, l, b)
+
+-- ---- the place of a register, and what is named there
 
 frame-in : (s : List ℕ) (h : ℕ) (x : View) → frameWith s h ≡ In x → (isUsed s h ≡ true) × (view.Frame (indexOf s h) ≡ x)
 unfolding frameWith
@@ -105,39 +159,19 @@ frame-no s h e = step (isUsed s h) refl e
     step true q g = let z : _≡_ {A = ℕ} 0 1 = cc in absurd (omega arith)
     step false q g = q
 
-aligned-item : (x : View) (n : ℕ) → mapped x n ≡ mappedItem x (alignedAt x n)
-unfolding mapped mappedItem
-aligned-item x n = step (eqb (n % 4) 0)
-  where
-    step : (t : Bool) → cond t (mappedItem x (decode (rows x) n)) Nameless ≡ mappedItem x (cond t (decode (rows x) n) Unlisted)
-    step true = refl
-    step false = unfold mappedItem in refl
-
-aligned-words : (x : View) (n : ℕ) (r : Register) (k : ℕ) → alignedAt x n ≡ Listed r k → k < wordsOf x r
-aligned-words x n r k e = step (eqb (n % 4) 0) e
-  where
-    step : (t : Bool) → cond t (decode (rows x) n) Unlisted ≡ Listed r k → k < wordsOf x r
-    step true g = decode-words x n r k g
-    step false g = let z : _≡_ {A = ℕ} 0 1 = cc in absurd (omega arith)
-
 -- the view x is where an attribute's register stands
-pub record Placed (q : MappedGroup) (a : ℕ) (s : List ℕ) (x : View) : Type 0 where
-  pub is-known : affinityKnown (group q) a s ≡ true
-  pub inside : vcpus s ≤ mostVcpus → seenBy x < mostVcpus
-  pub is-item : item (group q) a s ≡ mappedItem x (wordAt q x (low a))
-  pub is-word : numberOk (group q) a ≡ true → (r : Register) (k : ℕ) → wordAt q x (low a) ≡ Listed r k → k < wordsOf x r
+pub record Placed (q : RegisterGroup) (a : ℕ) (s : List ℕ) (x : View) : Type 0 where
+  pub is-known : affinityKnown q a s ≡ true
+  pub is-item : item q a s ≡ itemAt q x (low a)
+  pub within : sound s ≡ true → isInitialised s ≡ true → numberOk q a ≡ true → Within s (itemAt q x (low a))
 
-in-frame : (s : List ℕ) (h : ℕ) → isUsed s h ≡ true → vcpus s ≤ mostVcpus → seenBy (view.Frame (indexOf s h)) < mostVcpus
+in-frame : (s : List ℕ) (h : ℕ) → isUsed s h ≡ true → sound s ≡ true → seenBy (view.Frame (indexOf s h)) < mostVcpus
 unfolding seenBy
-in-frame s h u few = omega (arith, ltb-true (indexOf s h) (vcpus s) u)
-
-line-word : (n : ℕ) (r : Register) (k : ℕ) → Listed (Bits flags.Lines) n ≡ Listed r k → (x : View) → n < banks x → k < wordsOf x r
-unfolding wordsOf
-line-word n r k e x l = let p : Bits flags.Lines ≡ r = cc in let w : n ≡ k = cc in rw (← p, ← w) l
+in-frame s h u e = omega (arith, ltb-true (indexOf s h) (vcpus s) u, sound-vcpus s e)
 
 -- group 7, below ID 32 or not
 of-lines : (a : ℕ) (s : List ℕ) (x : View) → placeOf Lines a s ≡ In x → Placed Lines a s x
-unfolding placeOf affinityKnown item wordAt mappedItem numberOk
+unfolding placeOf affinityKnown item itemAt numberOk
 of-lines a s x e = step (ltb (low a) 32) refl e
   where
     step : (t : Bool) → ltb (low a) 32 ≡ t → cond t (frameWith s (high a)) (In view.Distributor) ≡ In x → Placed Lines a s x
@@ -147,49 +181,49 @@ of-lines a s x e = step (ltb (low a) 32) refl e
         let z : low a / 32 ≡ 0 = omega arith in
         rw (← f .1) (record {
           is-known = rw (q, affinityKnown) (f .0);
-          inside = in-frame s (high a) (f .0);
           is-item = rw (q, z);
-          is-word = λ n r k w. line-word (low a / 32) r k w (view.Frame (indexOf s (high a))) (rw z (unfold banks in (omega arith)));
+          within = λ h i n. lines-within s (view.Frame (indexOf s (high a))) (low a / 32) h (in-frame s (high a) (f .0) h) (rw z (unfold banks in (omega arith)));
         })
     step false q g =
         let y : view.Distributor ≡ x = cc in
         rw (← y) (record {
           is-known = rw (q, affinityKnown);
-          inside = λ few. unfold seenBy in (omega arith);
           is-item = rw q;
-          is-word = λ n r k w. line-word (low a / 32) r k w view.Distributor (unfold banks in (omega (arith, eqb-true (low a / 1024) 0 (both (eqb (low a / 1024) 0) (eqb (low a % 1024 % 32) 0) n .0))));
+          within = λ h i n. lines-within s view.Distributor (low a / 32) h (unfold seenBy in (omega arith))
+              (unfold banks in (omega (arith, eqb-true (low a / 1024) 0 (both (eqb (low a / 1024) 0) (eqb (low a % 1024 % 32) 0) n .0))));
         })
 
--- group 5
-of-frame : (a : ℕ) (s : List ℕ) (x : View) → frameWith s (high a) ≡ In x → Placed Redistributor a s x
-unfolding affinityKnown item wordAt
-of-frame a s x e =
-    let f = frame-in s (high a) x e in
-    rw (← f .1) (record {
-      is-known = f .0;
-      inside = in-frame s (high a) (f .0);
-      is-item = aligned-item (view.Frame (indexOf s (high a))) (low a);
-      is-word = λ n r k w. aligned-words (view.Frame (indexOf s (high a))) (low a) r k w;
-    })
-
-pub placed : (q : MappedGroup) (a : ℕ) (s : List ℕ) (x : View) → placeOf q a s ≡ In x → Placed q a s x
-unfolding placeOf affinityKnown item wordAt
+pub placed : (q : RegisterGroup) (a : ℕ) (s : List ℕ) (x : View) → placeOf q a s ≡ In x → Placed q a s x
+unfolding placeOf affinityKnown item itemAt systemAt
 placed Distributor a s x e =
     let y : view.Distributor ≡ x = cc in
     rw (← y) (record {
       is-known = refl;
-      inside = λ few. unfold seenBy in (omega arith);
-      is-item = aligned-item view.Distributor (low a);
-      is-word = λ n r k w. aligned-words view.Distributor (low a) r k w;
+      is-item = refl;
+      within = λ h i n. mapped-within s view.Distributor (low a) h (unfold seenBy in (omega arith));
     })
-placed Redistributor a s x e = of-frame a s x e
+placed Redistributor a s x e =
+    let f = frame-in s (high a) x e in
+    rw (← f .1) (record {
+      is-known = f .0;
+      is-item = refl;
+      within = λ h i n. mapped-within s (view.Frame (indexOf s (high a))) (low a) h (in-frame s (high a) (f .0) h);
+    })
+placed Interface a s x e =
+    let f = frame-in s (high a) x e in
+    rw (← f .1) (record {
+      is-known = f .0;
+      is-item = refl;
+      within = λ h i n. system-within s (indexOf s (high a)) (low a) (usable s (indexOf s (high a)) h i (f .0));
+    })
 placed Lines a s x e = of-lines a s x e
 
 -- and where it stands nowhere
-pub unplaced : (q : MappedGroup) (a : ℕ) (s : List ℕ) → placeOf q a s ≡ NoVcpu → affinityKnown (group q) a s ≡ false
+pub unplaced : (q : RegisterGroup) (a : ℕ) (s : List ℕ) → placeOf q a s ≡ NoVcpu → affinityKnown q a s ≡ false
 unfolding placeOf affinityKnown
 unplaced Distributor a s e = let z : _≡_ {A = ℕ} 0 1 = cc in absurd (omega arith)
 unplaced Redistributor a s e = frame-no s (high a) e
+unplaced Interface a s e = frame-no s (high a) e
 unplaced Lines a s e = step (ltb (low a) 32) e
   where
     step : (t : Bool) → cond t (frameWith s (high a)) (In view.Distributor) ≡ NoVcpu → cond t (isUsed s (high a)) true ≡ false
@@ -197,7 +231,7 @@ unplaced Lines a s e = step (ltb (low a) 32) e
     step false g = let z : _≡_ {A = ℕ} 0 1 = cc in absurd (omega arith)
 
 -- one or the other
-pub stands : (q : MappedGroup) (a : ℕ) (s : List ℕ) → affinityKnown (group q) a s ≡ true → (x : View) × (placeOf q a s ≡ In x)
+pub stands : (q : RegisterGroup) (a : ℕ) (s : List ℕ) → affinityKnown q a s ≡ true → (x : View) × (placeOf q a s ≡ In x)
 stands q a s t = step (placeOf q a s) refl
   where
     step : (p : Place) → placeOf q a s ≡ p → (x : View) × (placeOf q a s ≡ In x)

@@ -1,40 +1,38 @@
--- What an attribute of the groups 1, 5 and 7 names: a word of a memory-mapped register, or the refusal. The definitions follow model's `item`.
-use Prim.Native.Nat.{ℕ, _/_, _%_}
-use mathlib.Core.Bool.{cond}
-use mathlib.Core.List.{List}
-use lib.Dec.{eqb, ltb}
-use Rattle.model.specs.Registers.{decode, rows}
-use Rattle.model.specs.Attributes.{high, low, indexOf, isUsed, item}
-use Rattle.model.specs.Calls.{getAttribute, refusal}
-use Rattle.model.specs.declared.Errno.the-variants.{Enxio}
+-- What an attribute of the groups 1, 5, 6 and 7 names, or its refusal. The definitions follow model's `item`, which is looked up in two steps: where it stands, and what is named there.
+use Prim.Native.Nat.{ℕ, _/_, _<_}
+use mathlib.Core.Path.{_≡_}
+use mathlib.Core.Bool.{true, cond}
+use mathlib.Core.List.{List, _∷_}
+use lib.Dec.{ltb}
+use Rattle.model.specs.Layout.{mostVcpus}
+use Rattle.model.specs.Sound.{sound}
+use Rattle.model.specs.Refusals.{firstFailing}
+use Rattle.model.specs.Registers.{wordsOf, seenBy}
+use Rattle.model.specs.Interface.{system, plainGroup}
+use Rattle.model.specs.Attributes.{high, low, indexOf, isUsed, mapped, systemItem, item}
+use Rattle.model.specs.Calls.{registerChecks}
+use Rattle.model.specs.declared.Errno.the-variants.{Efault}
 use Rattle.model.specs.declared.Refusal.{Refusal}
 use Rattle.model.specs.declared.Refusal.the-variants.{None, Refuse}
 use Rattle.model.specs.declared.View.{View}
 use Rattle.model.specs.declared.View.the-variants as view
 use Rattle.model.specs.declared.Flags.the-variants as flags
 use Rattle.model.specs.declared.Register.the-variants.{Bits}
-use Rattle.model.specs.declared.Decoded.{Decoded}
-use Rattle.model.specs.declared.Decoded.the-variants.{Listed, Unlisted}
 use Rattle.model.specs.declared.Item.{Item}
 use Rattle.model.specs.declared.Item.the-variants.{Mapped, System, Nameless}
 use Rattle.model.specs.declared.RegisterGroup.{RegisterGroup}
-use Rattle.model.specs.declared.RegisterGroup.the-variants as groups
-use Rattle.attributes.specs.declared.MappedGroup.{MappedGroup}
-use Rattle.attributes.specs.declared.MappedGroup.the-variants.{Distributor, Redistributor, Lines}
+use Rattle.model.specs.declared.RegisterGroup.the-variants.{Distributor, Redistributor, Interface, Lines}
+use Rattle.interface.specs.Asked.{Usable}
 use Rattle.attributes.specs.declared.Place.{Place}
 use Rattle.attributes.specs.declared.Place.the-variants.{In, NoVcpu}
 use Rattle.attributes.specs.declared.Named.{Named}
-use Rattle.attributes.specs.declared.Named.the-variants.{Word, Not}
+use Rattle.attributes.specs.declared.Named.the-variants.{Is, Not}
 
--- the group among those that name registers, and its number
-abbrev pub group : MappedGroup → RegisterGroup
-group Distributor = groups.Distributor
-group Redistributor = groups.Redistributor
-group Lines = groups.Lines
-
-unfoldable pub groupNumber : MappedGroup → ℕ
+-- the number of a group
+unfoldable pub groupNumber : RegisterGroup → ℕ
 groupNumber Distributor = 1
 groupNumber Redistributor = 5
+groupNumber Interface = 6
 groupNumber Lines = 7
 
 -- ---- where a register stands
@@ -43,28 +41,36 @@ groupNumber Lines = 7
 unfoldable pub frameWith : List ℕ → ℕ → Place
 frameWith s a = cond (isUsed s a) (In (view.Frame (indexOf s a))) NoVcpu
 
-unfoldable pub placeOf : MappedGroup → ℕ → List ℕ → Place
+unfoldable pub placeOf : RegisterGroup → ℕ → List ℕ → Place
 placeOf Distributor a s = In view.Distributor
 placeOf Redistributor a s = frameWith s (high a)
+placeOf Interface a s = frameWith s (high a)
 placeOf Lines a s = cond (ltb (low a) 32) (frameWith s (high a)) (In view.Distributor)
 
--- ---- which word a number names there: only the listed aligned words exist; group 7 has 32 lines a word
+-- ---- what a number names there: group 6 a system register of the vCPU whose frame it is; group 7 has 32 lines a word
 
-abbrev pub alignedAt : View → ℕ → Decoded
-alignedAt x n = cond (eqb (n % 4) 0) (decode (rows x) n) Unlisted
+unfoldable pub systemAt : View → ℕ → Item
+systemAt view.Distributor n = Nameless
+systemAt (view.Frame v) n = systemItem v (system n)
 
-unfoldable pub wordAt : MappedGroup → View → ℕ → Decoded
-wordAt Distributor x n = alignedAt x n
-wordAt Redistributor x n = alignedAt x n
-wordAt Lines x n = Listed (Bits flags.Lines) (n / 32)
+unfoldable pub itemAt : RegisterGroup → View → ℕ → Item
+itemAt Distributor x n = mapped x n
+itemAt Redistributor x n = mapped x n
+itemAt Interface x n = systemAt x n
+itemAt Lines x n = Mapped x (Bits flags.Lines) (n / 32)
 
--- ---- what an attribute names, where a get of it is not refused: of these groups no item is a system register, and a nameless one is refused
+-- ---- what an attribute names, where a get of it is not refused
 
 unfoldable pub namedBy : Refusal → Item → Named
 namedBy (Refuse e) i = Not e
-namedBy None (Mapped x r k) = Word x r k
-namedBy None (System v p) = Not Enxio
-namedBy None Nameless = Not Enxio
+namedBy None i = Is i
 
-unfoldable pub wordNamed : MappedGroup → ℕ → List ℕ → Named
-wordNamed q a s = namedBy (refusal (getAttribute (groupNumber q) a) s) (item (group q) a s)
+unfoldable pub itemNamed : RegisterGroup → ℕ → List ℕ → Named
+itemNamed q a s = namedBy (firstFailing ((sound s, Efault) ∷ registerChecks q a s)) (item q a s)
+
+-- ---- what the functions that read and write it ask
+
+abbrev pub Within : List ℕ → Item → Type 0
+Within s (Mapped x r k) = (sound s ≡ true) × (seenBy x < mostVcpus) × (k < wordsOf x r)
+Within s (System v p) = Usable s v × (plainGroup p < 2)
+Within s Nameless = Unit {0}

@@ -1,8 +1,8 @@
--- `attributes::lines_at` meets its contract.
+-- `attributes::lookup::lines_at` meets its contract.
 use Rattle.attributes.proofs.Placing.{lines-private, lines-shared}
 use borrow.Author.Needs.{needs}
-use Rattle.attributes.proofs.lines_at.Statement.{statement}
-use Rattle.attributes.proofs.lines_at.Tie as tie
+use Rattle.attributes.proofs.lookup.lines_at.Statement.{statement}
+use Rattle.attributes.proofs.lookup.lines_at.Tie as tie
 
 pub lines-at-spec : {M : Type 1} → statement M
 lines-at-spec =

@@ -1,9 +1,9 @@
--- `attributes::register_takes` meets its contract.
+-- `attributes::item::register_takes` meets its contract.
 use Rattle.model.specs.Attributes.{registerTakes}
-use Rattle.attributes.proofs.Placing.{takes-any}
+use Rattle.attributes.proofs.Items.{takes-any}
 use borrow.Author.Needs.{needs}
-use Rattle.attributes.proofs.register_takes.Statement.{statement}
-use Rattle.attributes.proofs.register_takes.Tie as tie
+use Rattle.attributes.proofs.item.register_takes.Statement.{statement}
+use Rattle.attributes.proofs.item.register_takes.Tie as tie
 
 pub register-takes-spec : {M : Type 1} → statement M
 register-takes-spec = tie.close (tie.spec (λ c. search needs) (λ c. unfold registerTakes in cc) (λ c. search takes-any))

@@ -1,8 +1,8 @@
--- `attributes::frame_with` meets its contract.
+-- `attributes::lookup::frame_with` meets its contract.
 use Rattle.attributes.proofs.Placing.{frame-found, frame-missing}
 use borrow.Author.Needs.{needs}
-use Rattle.attributes.proofs.frame_with.Statement.{statement}
-use Rattle.attributes.proofs.frame_with.Tie as tie
+use Rattle.attributes.proofs.lookup.frame_with.Statement.{statement}
+use Rattle.attributes.proofs.lookup.frame_with.Tie as tie
 
 pub frame-with-spec : {M : Type 1} → statement M
 frame-with-spec =
