@@ -1,0 +1,13 @@
+-- The laws of the record.
+pub mod Groups
+pub mod Bytes
+pub mod Lists
+pub mod Order
+pub mod Choices
+pub mod Shapes
+pub mod Standing
+pub mod Saving
+pub mod Filling
+pub mod Loading
+pub mod Turns
+pub mod Settled

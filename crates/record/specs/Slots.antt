@@ -1,0 +1,169 @@
+-- The values of a record by their places in the state: for each the number of a header value, or the place of a word and how it is shown.
+-- Proofs tie these to the entries and the attributes of model's Record (proofs/Standing, proofs/Loading).
+use Prim.Native.Nat.{ℕ, _+_, _*_, _-_, _^_, _≤_, _<_}
+use mathlib.Core.Bool.{Bool, true, false, cond, _&&_}
+use mathlib.Core.List.{List, [], _∷_, _++_}
+use mathlib.Core.Path.{_≡_}
+use lib.Dec.{eqb, ltb, leb}
+use lib.ListN.{length, set}
+use Rattle.model.specs.Words.{each, spread}
+use Rattle.model.specs.Layout.{stateLength, mostVcpus, word, count, vcpus, affinity, block, routeAt}
+use Rattle.model.specs.Sound.{fits}
+use Rattle.model.specs.Refusals.{firstFailing}
+use Rattle.model.specs.Record.{version, spiWords, spis, encode, decodeNumber, Loaded, done, fault, taking, faults}
+use Rattle.model.specs.declared.Errno.the-variants.{Einval, Ebadmsg}
+use Rattle.model.specs.declared.Refusal.{Refusal}
+use Rattle.model.specs.declared.Answer.{Answer}
+use Rattle.model.specs.declared.Answer.the-variants.{Value, Refused}
+use Rattle.words.specs.Words.{collect}
+use Rattle.record.specs.declared.slots.Kind.{Kind}
+use Rattle.record.specs.declared.slots.Kind.the-variants.{Within, Above, Edges, Point}
+use Rattle.record.specs.declared.slots.Slot.{Slot}
+use Rattle.record.specs.declared.slots.Slot.the-variants.{Header, Word}
+
+-- ---- words as they are shown
+
+unfoldable pub shown : Kind → ℕ → ℕ
+shown (Within m) w = w
+shown (Above b m) w = b + w
+shown (Edges m) w = spread w
+shown (Point l) w = w
+
+-- the word that is shown as x
+unfoldable pub hidden : Kind → ℕ → ℕ
+hidden (Within m) x = x
+hidden (Above b m) x = x - b
+hidden (Edges m) x = collect x
+hidden (Point l) x = x
+
+-- a word that may stand there is shown as x
+unfoldable pub shows : Kind → ℕ → Bool
+shows (Within m) x = fits x m
+shows (Above b m) x = leb b x && fits (x - b) m
+shows (Edges m) x = fits x m
+shows (Point l) x = leb l x && leb x 7
+
+-- ---- the words of an SPI bank; in the last one, of the SPI word 31, the interrupts from 1020 on do not exist
+
+unfoldable pub flagBits : Bool → ℕ
+flagBits last = cond last 0x0fffffff 0xffffffff
+
+unfoldable pub priorityBits : Bool → ℕ → ℕ
+priorityBits last j = cond (last && eqb j 12) 0 0xf8f8f8f8
+
+unfoldable pub edgeBits : Bool → ℕ → ℕ
+edgeBits last j = cond (last && eqb j 14) 0x00aaaaaa 0xaaaaaaaa
+
+unfoldable pub bankKind : Bool → ℕ → Kind
+bankKind last j = cond (ltb j 5) (Within (flagBits last)) (cond (ltb j 13) (Within (priorityBits last j)) (Edges (edgeBits last j)))
+
+unfoldable pub bankSlot : ℕ → ℕ → Slot
+bankSlot w j = Word (256 + 16 * w + j) (bankKind (eqb w 31) j)
+
+-- ---- the words of a vCPU's block
+
+unfoldable pub privateKind : ℕ → Kind
+privateKind j = cond (ltb j 4) (Within 0xffffffff) (cond (eqb j 4) (Within 0xffff0000) (Within 0xf8f8f8f8))
+
+-- PMR, CTLR, BPR0, BPR1, AP0R, AP1R, IGRPEN0, IGRPEN1
+unfoldable pub interfaceKind : ℕ → Kind
+interfaceKind j =
+    cond (eqb j 0) (Within 0xf8)
+    (cond (eqb j 1) (Above 0x400 2)
+    (cond (eqb j 2) (Point 2)
+    (cond (eqb j 3) (Point 3)
+    (cond (ltb j 6) (Within 0xffffffff) (Within 1)))))
+
+-- STATUSR, the bank without the edge flags, the CPU interface
+unfoldable pub vcpuSlot : ℕ → ℕ → Slot
+vcpuSlot v j =
+    cond (eqb j 0) (Word (block v + 18) (Within 15))
+    (cond (ltb j 14) (Word (block v + (j - 1)) (privateKind (j - 1))) (Word (block v + (j + 5)) (interfaceKind (j - 14))))
+
+-- ---- the order of the record
+
+-- f b, f (b + 1), .. f (b + k - 1)
+abbrev pub run : (ℕ → Slot) → ℕ → ℕ → List Slot
+run f b k = each (λ j. f j ∷ []) b k
+
+abbrev pub bankSlots : ℕ → List Slot
+bankSlots w = run (bankSlot w) 0 15
+
+abbrev pub routeSlot : ℕ → Slot
+routeSlot id = Word (routeAt id) (Within 0x00ffffff)
+
+abbrev pub vcpuSlots : ℕ → List Slot
+vcpuSlots v = run (vcpuSlot v) 0 22
+
+-- of a device of c interrupts and n vCPUs
+unfoldable pub slots : ℕ → ℕ → List Slot
+slots c n =
+    run Header 0 (3 + n)
+    ++ (Word 3 (Above 0x50 3) ∷ Word 4 (Within 15)
+    ∷ (each bankSlots 1 (spiWords c) ++ (run routeSlot 32 (spis c) ++ each vcpuSlots 0 n)))
+
+abbrev pub slotsOf : List ℕ → List Slot
+slotsOf s = slots (count s) (vcpus s)
+
+-- the numbers of a device that has a record
+pub record Sized (c n : ℕ) : Type 0 where
+  pub least : 64 ≤ c
+  pub most : c ≤ 1024
+  pub few : n ≤ mostVcpus
+
+-- ---- a value read and judged
+
+-- version, count, vCPUs, each affinity
+unfoldable pub headerAt : List ℕ → ℕ → ℕ
+headerAt s k = cond (eqb k 0) version (cond (eqb k 1) (count s) (cond (eqb k 2) (vcpus s) (affinity s (k - 3))))
+
+unfoldable pub slotRead : List ℕ → Slot → ℕ
+slotRead s (Header k) = headerAt s k
+slotRead s (Word p k) = shown k (word s p)
+
+-- what reading a value asks: it stands in the state, and is a number of 32 bits
+pub data Stands (s : List ℕ) : Slot → Type 0 where
+  heads : {k : ℕ} → k < 3 + mostVcpus → Stands s (Header k)
+  stands : {p : ℕ} {k : Kind} → p < stateLength → shown k (word s p) < 2 ^ 32 → Stands s (Word p k)
+
+pub record Reads (s : List ℕ) (x : Slot) : Type 0 where
+  pub size : length s ≡ stateLength
+  pub inside : Stands s x
+
+-- t is the target
+unfoldable pub takes : List ℕ → Slot → ℕ → Bool
+takes t (Header k) x = eqb x (headerAt t k)
+takes t (Word p k) x = shows k x
+
+-- what storing a value asks
+pub data Kept (s : List ℕ) : Slot → ℕ → Type 0 where
+  skips : {k x : ℕ} → Kept s (Header k) x
+  keeps : {p x : ℕ} {k : Kind} → p < stateLength → shows k x ≡ true → Kept s (Word p k) x
+
+pub record Storable (s : List ℕ) (y : Slot) (x : ℕ) : Type 0 where
+  pub size : length s ≡ stateLength
+  pub kept : Kept s y x
+
+unfoldable pub slotPut : List ℕ → Slot → ℕ → List ℕ
+slotPut s (Header k) x = s
+slotPut s (Word p k) x = set s p (hidden k x)
+
+-- ---- the record of some values, and what a record says for them
+
+unfoldable pub slotBytes : List ℕ → List Slot → List ℕ
+slotBytes s [] = []
+slotBytes s (x ∷ xs) = encode (slotRead s x) ++ slotBytes s xs
+
+unfoldable pub loadSlots : List ℕ → List Slot → List ℕ → List ℕ → Loaded
+loadSlots t [] [] s = done s
+loadSlots t [] (b ∷ bytes) s = fault Ebadmsg
+loadSlots t (x ∷ xs) bytes s = taking (decodeNumber bytes) (λ v r. elim (takes t x v) [ true ↦ loadSlots t xs r (slotPut s x v) | false ↦ fault Einval ])
+
+-- what a record is refused with
+unfoldable pub faultOf : Loaded → Refusal
+faultOf l = firstFailing (faults l)
+
+-- how many bytes of its buffer save hands back
+abbrev pub frontLength : Answer → ℕ
+frontLength (Value n) = n
+frontLength (Refused e) = 0

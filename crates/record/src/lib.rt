@@ -1,0 +1,5 @@
+// The record: seven-bit numbers, save, restore.
+pub mod number;
+pub mod restore;
+pub mod save;
+pub mod slots;
