@@ -2,7 +2,7 @@
 use state::Mpidr;
 use state::VcpuIndex;
 ghost use mathlib.Core.List.{[]};
-ghost use Rattle.model.specs.Calls.{Does, call, make, addVcpu, setRunning, changeLine, readDistributor, writeDistributor, readFrame, writeFrame, readSystem, writeSystem, querySignal, getAttribute, setAttribute};
+ghost use Rattle.model.specs.Calls.{Does, call, make, addVcpu, setRunning, changeLine, readDistributor, writeDistributor, readFrame, writeFrame, readSystem, writeSystem, querySignal, getAttribute, setAttribute, save, restore};
 
 // ---- the calls that set a device up
 
@@ -28,38 +28,6 @@ pub extern "C" fn vgic_set_running(state: &mut [u32], v: usize, on: bool) -> i64
     ensures { λ r. ⌜ Does (call (setRunning v on) (now (state .entry))) r (now (state .exit)) [] ⌝ }
 {
     vgic::set_running(state, VcpuIndex(v), on)
-}
-
-// Attribute group 3: sets the interrupt count.
-#[no_mangle]
-pub extern "C" fn vgic_set_count(state: &mut [u32], attribute: u64, value: u64) -> i64
-    ensures { λ r. ⌜ Does (call (setAttribute 3 attribute value) (now (state .entry))) r (now (state .exit)) [] ⌝ }
-{
-    vgic::set_count(state, attribute, value)
-}
-
-// Attribute group 3: gives the interrupt count.
-#[no_mangle]
-pub extern "C" fn vgic_get_count(state: &[u32], attribute: u64) -> i64
-    ensures { λ r. ⌜ Does (call (getAttribute 3 attribute) (now (state .entry))) r (now (state .entry)) [] ⌝ }
-{
-    vgic::get_count(state, attribute)
-}
-
-// Attribute group 4: initialises the device.
-#[no_mangle]
-pub extern "C" fn vgic_initialise(state: &mut [u32], attribute: u64, value: u64) -> i64
-    ensures { λ r. ⌜ Does (call (setAttribute 4 attribute value) (now (state .entry))) r (now (state .exit)) [] ⌝ }
-{
-    vgic::initialise(state, attribute, value)
-}
-
-// Attribute group 4 has no get: refused.
-#[no_mangle]
-pub extern "C" fn vgic_get_initialise(state: &[u32], attribute: u64) -> i64
-    ensures { λ r. ⌜ Does (call (getAttribute 4 attribute) (now (state .entry))) r (now (state .entry)) [] ⌝ }
-{
-    vgic::get_initialise(state, attribute)
 }
 
 // ---- the guest's accesses to memory-mapped registers, by the vCPU `v`
@@ -151,52 +119,43 @@ pub extern "C" fn vgic_change_line(state: &mut [u32], v: usize, id: usize, level
     vgic::change_line(state, VcpuIndex(v), id, level)
 }
 
-// ---- attributes of the memory-mapped registers, and lines
+// ---- attributes
 
-// Attribute group 1: gets a word of the distributor.
+// Gets an attribute of a group.
 #[no_mangle]
-pub extern "C" fn vgic_get_distributor(state: &[u32], attribute: u64) -> i64
-    ensures { λ r. ⌜ Does (call (getAttribute 1 attribute) (now (state .entry))) r (now (state .entry)) [] ⌝ }
+pub extern "C" fn vgic_get_attribute(state: &[u32], group: u64, attribute: u64) -> i64
+    ensures { λ r. ⌜ Does (call (getAttribute group attribute) (now (state .entry))) r (now (state .entry)) [] ⌝ }
 {
-    vgic::get_distributor(state, attribute)
+    vgic::get_attribute(state, group, attribute)
 }
 
-// Attribute group 1: sets a word of the distributor.
+// Sets an attribute of a group: of group 3 the interrupt count; of group 4 the device is initialised.
 #[no_mangle]
-pub extern "C" fn vgic_set_distributor(state: &mut [u32], attribute: u64, value: u64) -> i64
-    ensures { λ r. ⌜ Does (call (setAttribute 1 attribute value) (now (state .entry))) r (now (state .exit)) [] ⌝ }
+pub extern "C" fn vgic_set_attribute(
+    state: &mut [u32],
+    group: u64,
+    attribute: u64,
+    value: u64,
+) -> i64
+    ensures { λ r. ⌜ Does (call (setAttribute group attribute value) (now (state .entry))) r (now (state .exit)) [] ⌝ }
 {
-    vgic::set_distributor(state, attribute, value)
+    vgic::set_attribute(state, group, attribute, value)
 }
 
-// Attribute group 5: gets a word of a redistributor frame.
+// ---- the record
+
+// Fills the front of a buffer with the record, whose length is the answer; the rest keeps its bytes, and a refusal changes none.
 #[no_mangle]
-pub extern "C" fn vgic_get_redistributor(state: &[u32], attribute: u64) -> i64
-    ensures { λ r. ⌜ Does (call (getAttribute 5 attribute) (now (state .entry))) r (now (state .entry)) [] ⌝ }
+pub extern "C" fn vgic_save(state: &[u32], buf: &mut [u8]) -> i64
+    ensures { λ r. ⌜ Does (call (save (now (buf .entry))) (now (state .entry))) r (now (state .entry)) (now (buf .exit)) ⌝ }
 {
-    vgic::get_redistributor(state, attribute)
+    vgic::fill(state, buf)
 }
 
-// Attribute group 5: sets a word of a redistributor frame.
+// Restores the device of a record into a fresh one of the same count and affinities.
 #[no_mangle]
-pub extern "C" fn vgic_set_redistributor(state: &mut [u32], attribute: u64, value: u64) -> i64
-    ensures { λ r. ⌜ Does (call (setAttribute 5 attribute value) (now (state .entry))) r (now (state .exit)) [] ⌝ }
+pub extern "C" fn vgic_restore(state: &mut [u32], bytes: &[u8]) -> i64
+    ensures { λ r. ⌜ Does (call (restore (now (bytes .entry))) (now (state .entry))) r (now (state .exit)) (now (bytes .entry)) ⌝ }
 {
-    vgic::set_redistributor(state, attribute, value)
-}
-
-// Attribute group 7: gets the lines of 32 interrupts.
-#[no_mangle]
-pub extern "C" fn vgic_get_lines(state: &[u32], attribute: u64) -> i64
-    ensures { λ r. ⌜ Does (call (getAttribute 7 attribute) (now (state .entry))) r (now (state .entry)) [] ⌝ }
-{
-    vgic::get_lines(state, attribute)
-}
-
-// Attribute group 7: sets the lines of 32 interrupts, latching nothing.
-#[no_mangle]
-pub extern "C" fn vgic_set_lines(state: &mut [u32], attribute: u64, value: u64) -> i64
-    ensures { λ r. ⌜ Does (call (setAttribute 7 attribute value) (now (state .entry))) r (now (state .exit)) [] ⌝ }
-{
-    vgic::set_lines(state, attribute, value)
+    vgic::restore(state, bytes)
 }

@@ -1,3 +1,4 @@
 -- The laws of the public calls.
 pub mod Numbers
 pub mod Shape
+pub mod Fronts

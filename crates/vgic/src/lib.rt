@@ -1,13 +1,13 @@
 // The public calls. Each takes any numbers and any lent words, and promises the answer and the words of its case of `call`.
-use attributes::MappedGroup;
 use model::Answer;
 use model::Errno;
+use record::save::front_length;
 use state::Mpidr;
 use state::VcpuIndex;
 ghost use mathlib.Core.Path.{_≡_};
 ghost use mathlib.Core.List.{[]};
 ghost use Rattle.model.specs.Refusals.{errno, number};
-ghost use Rattle.model.specs.Calls.{Does, call, make, addVcpu, setRunning, changeLine, readDistributor, writeDistributor, readFrame, writeFrame, readSystem, writeSystem, querySignal, getAttribute, setAttribute};
+ghost use Rattle.model.specs.Calls.{Does, call, make, addVcpu, setRunning, changeLine, readDistributor, writeDistributor, readFrame, writeFrame, readSystem, writeSystem, querySignal, getAttribute, setAttribute, save, restore, Saves};
 
 // ---- the answer as a signed number
 
@@ -61,34 +61,6 @@ pub fn set_running(state: &mut [u32], v: VcpuIndex, on: bool) -> i64
     ensures { λ r. ⌜ Does (call (setRunning (v .0) on) (now (state .entry))) r (now (state .exit)) [] ⌝ }
 {
     number_of(setup::set_running(state, v, on))
-}
-
-// Attribute group 3: sets the interrupt count.
-pub fn set_count(state: &mut [u32], attribute: u64, value: u64) -> i64
-    ensures { λ r. ⌜ Does (call (setAttribute 3 attribute value) (now (state .entry))) r (now (state .exit)) [] ⌝ }
-{
-    number_of(setup::set_count(state, attribute, value))
-}
-
-// Attribute group 3: gives the interrupt count.
-pub fn get_count(state: &[u32], attribute: u64) -> i64
-    ensures { λ r. ⌜ Does (call (getAttribute 3 attribute) (now (state .entry))) r (now (state .entry)) [] ⌝ }
-{
-    number_of(setup::get_count(state, attribute))
-}
-
-// Attribute group 4: initialises the device.
-pub fn initialise(state: &mut [u32], attribute: u64, value: u64) -> i64
-    ensures { λ r. ⌜ Does (call (setAttribute 4 attribute value) (now (state .entry))) r (now (state .exit)) [] ⌝ }
-{
-    number_of(setup::initialise(state, attribute, value))
-}
-
-// Attribute group 4 has no get: refused.
-pub fn get_initialise(state: &[u32], attribute: u64) -> i64
-    ensures { λ r. ⌜ Does (call (getAttribute 4 attribute) (now (state .entry))) r (now (state .entry)) [] ⌝ }
-{
-    number_of(setup::get_initialise(state, attribute))
 }
 
 // ---- the guest's accesses to memory-mapped registers, by the vCPU `v`
@@ -160,46 +132,43 @@ pub fn change_line(state: &mut [u32], v: VcpuIndex, id: usize, level: bool) -> i
     number_of(access::change_line(state, v, id, level))
 }
 
-// ---- attributes of the memory-mapped registers, and lines
+// ---- attributes
 
-// Attribute group 1: gets a word of the distributor.
-pub fn get_distributor(state: &[u32], attribute: u64) -> i64
-    ensures { λ r. ⌜ Does (call (getAttribute 1 attribute) (now (state .entry))) r (now (state .entry)) [] ⌝ }
+// Gets an attribute of a group.
+pub fn get_attribute(state: &[u32], group: u64, attribute: u64) -> i64
+    ensures { λ r. ⌜ Does (call (getAttribute group attribute) (now (state .entry))) r (now (state .entry)) [] ⌝ }
 {
-    number_of(attributes::get(state, MappedGroup::Distributor, attribute))
+    number_of(attributes::get(state, group, attribute))
 }
 
-// Attribute group 1: sets a word of the distributor.
-pub fn set_distributor(state: &mut [u32], attribute: u64, value: u64) -> i64
-    ensures { λ r. ⌜ Does (call (setAttribute 1 attribute value) (now (state .entry))) r (now (state .exit)) [] ⌝ }
+// Sets an attribute of a group: of group 3 the interrupt count; of group 4 the device is initialised.
+pub fn set_attribute(state: &mut [u32], group: u64, attribute: u64, value: u64) -> i64
+    ensures { λ r. ⌜ Does (call (setAttribute group attribute value) (now (state .entry))) r (now (state .exit)) [] ⌝ }
 {
-    number_of(attributes::set(state, MappedGroup::Distributor, attribute, value))
+    number_of(attributes::set(state, group, attribute, value))
 }
 
-// Attribute group 5: gets a word of a redistributor frame.
-pub fn get_redistributor(state: &[u32], attribute: u64) -> i64
-    ensures { λ r. ⌜ Does (call (getAttribute 5 attribute) (now (state .entry))) r (now (state .entry)) [] ⌝ }
+// ---- the record
+
+// Fills the front of a buffer with the record, whose length is the answer; the rest keeps its bytes, and a refusal changes none.
+pub fn fill(state: &[u32], buf: &mut [u8]) -> i64
+    ensures { λ r. ⌜ Does (call (save (now (buf .entry))) (now (state .entry))) r (now (state .entry)) (now (buf .exit)) ⌝ }
 {
-    number_of(attributes::get(state, MappedGroup::Redistributor, attribute))
+    number_of(record::save::fill(state, buf))
 }
 
-// Attribute group 5: sets a word of a redistributor frame.
-pub fn set_redistributor(state: &mut [u32], attribute: u64, value: u64) -> i64
-    ensures { λ r. ⌜ Does (call (setAttribute 5 attribute value) (now (state .entry))) r (now (state .exit)) [] ⌝ }
+// The same, with the answer left in `result`: hands back the filled front part of the buffer, the empty front where it is refused.
+pub fn save<'a>(state: &[u32], buf: &'a mut [u8], result: &mut i64) -> &'a mut [u8]
+    ensures { λ r. ⌜ Saves (call (save (now (buf .entry))) (now (state .entry))) (now (result .exit)) (now (state .entry)) (now r) × (r .ptr ≡ buf .entry .ptr) ⌝ }
 {
-    number_of(attributes::set(state, MappedGroup::Redistributor, attribute, value))
+    let answer = record::save::fill(state, buf);
+    *result = number_of(answer);
+    &mut buf[..front_length(answer)]
 }
 
-// Attribute group 7: gets the lines of 32 interrupts.
-pub fn get_lines(state: &[u32], attribute: u64) -> i64
-    ensures { λ r. ⌜ Does (call (getAttribute 7 attribute) (now (state .entry))) r (now (state .entry)) [] ⌝ }
+// Restores the device of a record into a fresh one of the same count and affinities.
+pub fn restore(state: &mut [u32], bytes: &[u8]) -> i64
+    ensures { λ r. ⌜ Does (call (restore (now (bytes .entry))) (now (state .entry))) r (now (state .exit)) (now (bytes .entry)) ⌝ }
 {
-    number_of(attributes::get(state, MappedGroup::Lines, attribute))
-}
-
-// Attribute group 7: sets the lines of 32 interrupts, latching nothing.
-pub fn set_lines(state: &mut [u32], attribute: u64, value: u64) -> i64
-    ensures { λ r. ⌜ Does (call (setAttribute 7 attribute value) (now (state .entry))) r (now (state .exit)) [] ⌝ }
-{
-    number_of(attributes::set(state, MappedGroup::Lines, attribute, value))
+    number_of(record::restore::restore_device(state, bytes))
 }

@@ -1,9 +1,0 @@
--- `vgic::get_lines` meets its contract.
-use Rattle.attributes.specs.Names.{groupNumber}
-use Rattle.vgic.proofs.Shape.{public}
-use borrow.Author.Needs.{needs}
-use Rattle.vgic.proofs.get_lines.Statement.{statement}
-use Rattle.vgic.proofs.get_lines.Tie as tie
-
-pub get-lines-spec : {M : Type 1} → statement M
-get-lines-spec = tie.close (tie.spec (λ c κs. search needs) (λ c κs. search needs) (λ c. unfold groupNumber in (search public)))
