@@ -129,7 +129,7 @@ fn steps(name: &[u8], s: &mut [u32; 1760], table: &[[u64; 4]]) {
 fn added(count: u64) -> [u32; 1760] {
     let mut s = [0u32; 1760];
     vgic::make(&mut s);
-    vgic::set_count(&mut s, 0, count);
+    vgic::set_attribute(&mut s, 3, 0, count);
     vgic::add_vcpu(&mut s, Mpidr(1));
     vgic::add_vcpu(&mut s, Mpidr(0));
     vgic::add_vcpu(&mut s, Mpidr(0x00ab_cd0f));
@@ -156,7 +156,7 @@ const READY: [[u64; 4]; 13] = [
 
 fn device(count: u64) -> [u32; 1760] {
     let mut s = added(count);
-    vgic::initialise(&mut s, 0, 0);
+    vgic::set_attribute(&mut s, 4, 0, 0);
     quiet(&mut s, &READY);
     s
 }

@@ -1,4 +1,4 @@
-// Runs the guest's accesses to memory-mapped registers, line changes and attributes, and prints their answers and the words that they change. The file stdout holds what document 01 gives for each.
+// Runs the guest's accesses to memory-mapped registers, line changes and attributes of every group that names registers, and prints their answers and the words that they change. The file stdout holds what document 01 gives for each.
 use report::say;
 use report::say_answer;
 use report::say_changed;
@@ -30,7 +30,7 @@ fn say_row(row: [u64; 4]) {
 fn added(count: u64) -> [u32; 1760] {
     let mut s = [0u32; 1760];
     vgic::make(&mut s);
-    vgic::set_count(&mut s, 0, count);
+    vgic::set_attribute(&mut s, 3, 0, count);
     vgic::add_vcpu(&mut s, Mpidr(1));
     vgic::add_vcpu(&mut s, Mpidr(0));
     vgic::add_vcpu(&mut s, Mpidr(0x00ab_cd0f));
@@ -40,11 +40,11 @@ fn added(count: u64) -> [u32; 1760] {
 // That device initialised, with f in each STATUSR.
 fn device(count: u64) -> [u32; 1760] {
     let mut s = added(count);
-    vgic::initialise(&mut s, 0, 0);
-    vgic::set_distributor(&mut s, 0x10, 0xf);
-    vgic::set_redistributor(&mut s, 0x1_0000_0010, 0xf);
-    vgic::set_redistributor(&mut s, 0x10, 0xf);
-    vgic::set_redistributor(&mut s, 0x00ab_cd0f_0000_0010, 0xf);
+    vgic::set_attribute(&mut s, 4, 0, 0);
+    vgic::set_attribute(&mut s, 1, 0x10, 0xf);
+    vgic::set_attribute(&mut s, 5, 0x1_0000_0010, 0xf);
+    vgic::set_attribute(&mut s, 5, 0x10, 0xf);
+    vgic::set_attribute(&mut s, 5, 0x00ab_cd0f_0000_0010, 0xf);
     s
 }
 
@@ -72,23 +72,6 @@ fn write(s: &mut [u32], at: Place, offset: u64, size: u64, value: u64) -> i64 {
     match at {
         Place::Distributor => vgic::write_distributor(s, VcpuIndex(1), offset, size, value),
         Place::Frame(f) => vgic::write_frame(s, VcpuIndex(1), VcpuIndex(f), offset, size, value),
-    }
-}
-
-// An attribute of group 1, 5 or 7.
-fn get(s: &[u32], group: u64, number: u64) -> i64 {
-    match group {
-        1 => vgic::get_distributor(s, number),
-        5 => vgic::get_redistributor(s, number),
-        _ => vgic::get_lines(s, number),
-    }
-}
-
-fn set(s: &mut [u32], group: u64, number: u64, value: u64) -> i64 {
-    match group {
-        1 => vgic::set_distributor(s, number, value),
-        5 => vgic::set_redistributor(s, number, value),
-        _ => vgic::set_lines(s, number, value),
     }
 }
 
@@ -220,9 +203,9 @@ fn guest_case(count: u64, at: Place, row: [u64; 4]) -> [u32; 1760] {
 // Attributes are set to the row's words, and got. `high` is an affinity in bits 63-32.
 fn attribute_case(count: u64, group: u64, high: u64, row: [u64; 4]) -> [u32; 1760] {
     let mut s = device(count);
-    set(&mut s, group, high | row[0], row[1]);
-    say_refusal(set(&mut s, group, high | row[2], row[3]));
-    say_answer(get(&s, group, high | row[2]));
+    vgic::set_attribute(&mut s, group, high | row[0], row[1]);
+    say_refusal(vgic::set_attribute(&mut s, group, high | row[2], row[3]));
+    say_answer(vgic::get_attribute(&s, group, high | row[2]));
     s
 }
 
@@ -402,10 +385,47 @@ fn access_row(count: u64, at: Place, group: u64, high: u64, row: [u64; 4]) {
     if (row[2] == 4) & (row[1] < 0x1_0000_0000) {
         let after = s;
         say(b";");
-        say_answer(get(&s, group, high | row[1]));
-        say_answer(set(&mut s, group, high | row[1], row[3]));
+        say_answer(vgic::get_attribute(&s, group, high | row[1]));
+        say_answer(vgic::set_attribute(&mut s, group, high | row[1], row[3]));
         say_changed(&s, &after);
     }
+}
+
+// ---- system registers by attribute
+
+// Bits 63-32 and 31-0 of an attribute of group 6, and two values that it is set to.
+const SYSTEM: [[u64; 4]; 19] = [
+    [0x1, 0xc230, 0xff, 0xffff_ffff_ffff_ff07],
+    [0x0, 0xc230, 0x7, 0x1a8],
+    [0xab_cd0f, 0xc643, 0x7, 0x0],
+    [0x1, 0xc643, 0x1, 0xffff_fffd],
+    [0x0, 0xc663, 0x2, 0x1_0000_000c],
+    [0x1, 0xc663, 0x7, 0x8],
+    [0x0, 0xc644, 0xffff_ffff, 0x5_8000_0001],
+    [0xab_cd0f, 0xc648, 0x10_0000, 0x1_0000_0000],
+    [0x1, 0xc664, 0x402, 0x400],
+    [0x0, 0xc664, 0x400, 0x402],
+    [0x1, 0xc664, 0x402, 0x2],
+    [0x1, 0xc664, 0x0, 0x401],
+    [0x1, 0xc664, 0x1_0000_0402, 0x403],
+    [0x0, 0xc665, 0x7, 0x0],
+    [0x1, 0xc665, 0xf, 0x1_0000_0007],
+    [0x1, 0xc666, 0x1, 0xfffe],
+    [0xab_cd0f, 0xc666, 0x2, 0xffff_ffff_ffff_ffff],
+    [0x0, 0xc667, 0x1, 0x1_0000_0000],
+    [0x1, 0xc667, 0x0, 0x3],
+];
+
+// What the first value reads back as; the answer to the second, what is read then, and the words that it changed.
+fn system_row(row: [u64; 4]) {
+    let mut s = device(64);
+    let number = (row[0] << 32) | row[1];
+    say_refusal(vgic::set_attribute(&mut s, 6, number, row[2]));
+    let before = s;
+    say_answer(vgic::get_attribute(&s, 6, number));
+    say_answer(vgic::set_attribute(&mut s, 6, number, row[3]));
+    say_answer(vgic::get_attribute(&s, 6, number));
+    say_changed(&s, &before);
 }
 
 // ---- refusals
@@ -461,6 +481,42 @@ const ATTRIBUTES: [[u64; 4]; 34] = [
     [1, 0x0, 0xffff_ffff, 0x1_0000_0000],
 ];
 
+// Group 6: the same for registers that guests only read or only write, and for what names none.
+const GROUP_6: [[u64; 4]; 22] = [
+    [6, 0x1, 0xc230, 0xf8],
+    [6, 0x2, 0xc230, 0xf8],
+    [6, 0x100_0000, 0xffff_ffff, 0x0],
+    [6, 0x1, 0x1_c230, 0xf8],
+    [6, 0x0, 0x8000_c664, 0x0],
+    [6, 0x2, 0x1_c230, 0xf8],
+    [6, 0x1, 0xc640, 0x0],
+    [6, 0x1, 0xc642, 0x0],
+    [6, 0x1, 0xc65b, 0x0],
+    [6, 0x1, 0xc660, 0x0],
+    [6, 0x1, 0xc662, 0x0],
+    [6, 0x1, 0xc641, 0x0],
+    [6, 0x1, 0xc659, 0x0],
+    [6, 0x1, 0xc65d, 0x0],
+    [6, 0x1, 0xc65f, 0x0],
+    [6, 0x1, 0xc661, 0x0],
+    [6, 0x1, 0x0, 0x0],
+    [6, 0x1, 0xc231, 0xf8],
+    [6, 0x1, 0xc668, 0x1],
+    [6, 0xab_cd0f, 0xc664, 0x403],
+    [6, 0xab_cd0f, 0xc665, 0x5],
+    [6, 0xab_cd0f, 0xc665, 0x7],
+];
+
+// Groups that are none.
+const UNKNOWN_GROUPS: [[u64; 4]; 6] = [
+    [0x0, 0x0, 0x4, 0x0],
+    [0x2, 0x2, 0x0, 0x1_0000_0000],
+    [0x8, 0x1, 0xc230, 0xf8],
+    [0x1_0000_0001, 0x0, 0x4, 0x0],
+    [0x1_0000_0003, 0x0, 0x0, 0x40],
+    [0xffff_ffff_ffff_ffff, 0x0, 0x0, 0x0],
+];
+
 // Two lines changed to 1: a vCPU and an ID, and again.
 const CHANGES: [[u64; 4]; 9] = [
     [0x0, 0x0, 0x9, 0x0],
@@ -480,6 +536,7 @@ enum Kind {
     Lines,
     Accesses,
     FrameAccesses,
+    System,
     Guest,
     Attributes,
     Changes,
@@ -499,8 +556,8 @@ fn phase_case(kind: Kind, state: [u32; 1760], row: [u64; 4]) {
         }
         Kind::Attributes => {
             let number = (row[1] << 32) | row[2];
-            say_answer(get(&s, row[0], number));
-            say_answer(set(&mut s, row[0], number, row[3]));
+            say_answer(vgic::get_attribute(&s, row[0], number));
+            say_answer(vgic::set_attribute(&mut s, row[0], number, row[3]));
         }
         _ => {
             say_answer(vgic::change_line(
@@ -531,6 +588,7 @@ fn row_case(name: &[u8], kind: Kind, row: [u64; 4]) {
         Kind::Lines => counts_row(7, row),
         Kind::Accesses => access_row(1024, Place::Distributor, 1, 0, row),
         Kind::FrameAccesses => access_row(64, Place::Frame(2), 5, 0x00ab_cd0f_0000_0000, row),
+        Kind::System => system_row(row),
         _ => {
             let mut unsound = device(64);
             unsound[15] = 1;
@@ -573,15 +631,15 @@ fn step(s: &mut [u32; 1760], name: &[u8], call: Call) {
         Call::Write(offset, value) => write(s, Place::Distributor, offset, 4, value),
         Call::Set(group, number, value) => {
             run(s, false);
-            set(s, group, number, value)
+            vgic::set_attribute(s, group, number, value)
         }
     };
     run(s, false);
     say(name);
     say(b":");
     say_answer(r);
-    say_answer(vgic::get_lines(s, 0x20));
-    say_answer(vgic::get_distributor(s, 0x204));
+    say_answer(vgic::get_attribute(s, 7, 0x20));
+    say_answer(vgic::get_attribute(s, 1, 0x204));
     run(s, true);
     say_answer(read(s, Place::Distributor, 0x204, 4));
     say_answer(read(s, Place::Distributor, 0x284, 4));
@@ -634,13 +692,13 @@ fn say_private(s: &mut [u32], name: &[u8], r: i64) {
     say(name);
     say(b":");
     say_answer(r);
-    say_answer(vgic::get_lines(s, 0x1_0000_0000));
-    say_answer(vgic::get_lines(s, 0x0));
-    say_answer(vgic::get_lines(s, 0x00ab_cd0f_0000_0000));
+    say_answer(vgic::get_attribute(s, 7, 0x1_0000_0000));
+    say_answer(vgic::get_attribute(s, 7, 0x0));
+    say_answer(vgic::get_attribute(s, 7, 0x00ab_cd0f_0000_0000));
     say(b";");
-    say_answer(vgic::get_redistributor(s, 0x1_0001_0200));
-    say_answer(vgic::get_redistributor(s, 0x1_0200));
-    say_answer(vgic::get_redistributor(s, 0x00ab_cd0f_0001_0200));
+    say_answer(vgic::get_attribute(s, 5, 0x1_0001_0200));
+    say_answer(vgic::get_attribute(s, 5, 0x1_0200));
+    say_answer(vgic::get_attribute(s, 5, 0x00ab_cd0f_0001_0200));
     say(b";");
     run(s, true);
     say_answer(read(s, Place::Frame(0), 0x1_0200, 4));
@@ -658,9 +716,9 @@ fn private_lines() {
     let clear = write(&mut s, Place::Frame(1), 0x1_0280, 4, 0xffff_ffff);
     run(&mut s, false);
     say_private(&mut s, b"ICPENDR leaves it pending", clear);
-    let lines = vgic::set_lines(&mut s, 0x00ab_cd0f_0000_0000, 0xffff_ffff);
+    let lines = vgic::set_attribute(&mut s, 7, 0x00ab_cd0f_0000_0000, 0xffff_ffff);
     say_private(&mut s, b"group 7 of vCPU 2, SGIs have no line", lines);
-    let latch = vgic::set_redistributor(&mut s, 0x1_0001_0200, 0xff00_00ff);
+    let latch = vgic::set_attribute(&mut s, 5, 0x1_0001_0200, 0xff00_00ff);
     say_private(&mut s, b"latches of vCPU 0 by attribute", latch);
     let down = vgic::change_line(&mut s, VcpuIndex(1), 20, false);
     say_private(&mut s, b"PPI 20 of vCPU 1, line down", down);
@@ -717,6 +775,14 @@ fn refusals() {
     rows(b"line changes", Kind::Changes, &CHANGES);
 }
 
+fn system_registers() {
+    say(b"group 6: the first value read back; the second set, read back, words changed\n");
+    rows(b"system", Kind::System, &SYSTEM);
+    say(b"group 6 and unknown groups, each device not sound; not initialised; running; stopped\n");
+    rows(b"attribute", Kind::Attributes, &GROUP_6);
+    rows(b"attribute", Kind::Attributes, &UNKNOWN_GROUPS);
+}
+
 fn main() {
     words();
     fields();
@@ -730,4 +796,5 @@ fn main() {
     flags_and_lines(&mut t);
     say(b"PPIs: answer and lines, latches, pending of the three vCPUs\n");
     private_lines();
+    system_registers();
 }

@@ -1,5 +1,7 @@
 // What the programs of cases print: texts, numbers, answers, and words of the state.
 use libc::STDOUT_FILENO;
+ghost use mathlib.Core.Path.{_≡_};
+ghost use lib.IntN.{natAbs};
 
 pub fn say(text: &[u8]) {
     io::write_all(STDOUT_FILENO, text);
@@ -17,7 +19,9 @@ pub fn say_hex(n: u64) {
 }
 
 // How far a number is from 0.
-fn magnitude(r: i64) -> u64 {
+pub fn magnitude(r: i64) -> u64
+    ensures { λ m. ⌜ m ≡ natAbs r ⌝ }
+{
     if r < 0 {
         return (-1 - r) as u64 + 1;
     }

@@ -29,8 +29,8 @@ fn count_case(value: u64) {
     say_decimal(value);
     say(b":");
     say_signed(vgic::make(&mut s));
-    say_signed(vgic::set_count(&mut s, 0, value));
-    say_signed(vgic::get_count(&s, 0));
+    say_signed(vgic::set_attribute(&mut s, 3, 0, value));
+    say_signed(vgic::get_attribute(&s, 3, 0));
     say(b"\n");
 }
 
@@ -56,10 +56,10 @@ fn count_first() {
     let mut s = [0xffff_ffffu32; 1760];
     say(b"count first:");
     say_signed(vgic::make(&mut s));
-    say_signed(vgic::set_count(&mut s, 7, 96));
+    say_signed(vgic::set_attribute(&mut s, 3, 7, 96));
     say_add(&mut s, 0);
     say_add(&mut s, 0x0012_340f);
-    say_signed(vgic::initialise(&mut s, 0, 5));
+    say_signed(vgic::set_attribute(&mut s, 4, 0, 5));
     say_words(&s);
 }
 
@@ -69,10 +69,10 @@ fn vcpus_first() {
     say_signed(vgic::make(&mut s));
     say_add(&mut s, 0);
     say_add(&mut s, 0x0012_340f);
-    say_signed(vgic::set_count(&mut s, 0xffff_ffff_ffff_ffff, 96));
+    say_signed(vgic::set_attribute(&mut s, 3, 0xffff_ffff_ffff_ffff, 96));
     say_words(&s);
     say(b"initialised:");
-    say_signed(vgic::initialise(&mut s, 0, 0));
+    say_signed(vgic::set_attribute(&mut s, 4, 0, 0));
     say_words(&s);
 }
 
@@ -81,12 +81,12 @@ fn no_count() {
     say(b"no count:");
     say_signed(vgic::make(&mut s));
     say_add(&mut s, 1);
-    say_signed(vgic::get_count(&s, 0));
-    say_signed(vgic::initialise(&mut s, 0, 0));
-    say_signed(vgic::get_count(&s, 0xffff_ffff));
+    say_signed(vgic::get_attribute(&s, 3, 0));
+    say_signed(vgic::set_attribute(&mut s, 4, 0, 0));
+    say_signed(vgic::get_attribute(&s, 3, 0xffff_ffff));
     say_words(&s);
     say(b"again:");
-    say_signed(vgic::initialise(&mut s, 0, 0));
+    say_signed(vgic::set_attribute(&mut s, 4, 0, 0));
     say_words(&s);
 }
 
@@ -121,7 +121,7 @@ fn nine_vcpus() {
     say_add(&mut s, 0x0f);
     say_words(&s);
     say(b"initialised, all running:");
-    say_signed(vgic::initialise(&mut s, 0, 0));
+    say_signed(vgic::set_attribute(&mut s, 4, 0, 0));
     say_run(&mut s, 0);
     say_run(&mut s, 1);
     say_run(&mut s, 2);
@@ -189,7 +189,7 @@ fn refused_adds() {
     say_add(&mut s, 0x10);
     say_words(&s);
     say(b"initialised: bad, used, free:");
-    vgic::initialise(&mut s, 0, 0);
+    vgic::set_attribute(&mut s, 4, 0, 0);
     say_add(&mut s, 0x10);
     say_add(&mut s, 0x00ff_ff0f);
     say_add(&mut s, 1);
@@ -200,17 +200,17 @@ fn refused_counts() {
     let mut s = [0u32; 1760];
     say(b"count set: 32, 64, 128:");
     vgic::make(&mut s);
-    vgic::set_count(&mut s, 0, 64);
-    say_signed(vgic::set_count(&mut s, 0, 32));
-    say_signed(vgic::set_count(&mut s, 0, 64));
-    say_signed(vgic::set_count(&mut s, 0, 128));
+    vgic::set_attribute(&mut s, 3, 0, 64);
+    say_signed(vgic::set_attribute(&mut s, 3, 0, 32));
+    say_signed(vgic::set_attribute(&mut s, 3, 0, 64));
+    say_signed(vgic::set_attribute(&mut s, 3, 0, 128));
     say_words(&s);
     say(b"initialised: 32, 64, 128:");
     vgic::add_vcpu(&mut s, Mpidr(0));
-    vgic::initialise(&mut s, 0, 0);
-    say_signed(vgic::set_count(&mut s, 0, 32));
-    say_signed(vgic::set_count(&mut s, 0, 64));
-    say_signed(vgic::set_count(&mut s, 0, 128));
+    vgic::set_attribute(&mut s, 4, 0, 0);
+    say_signed(vgic::set_attribute(&mut s, 3, 0, 32));
+    say_signed(vgic::set_attribute(&mut s, 3, 0, 64));
+    say_signed(vgic::set_attribute(&mut s, 3, 0, 128));
     say_words(&s);
 }
 
@@ -218,17 +218,17 @@ fn refused_initialise() {
     let mut s = [0u32; 1760];
     say(b"no vCPU: get 0, set 1, set 100000000, set 0:");
     vgic::make(&mut s);
-    say_signed(vgic::get_initialise(&s, 0));
-    say_signed(vgic::initialise(&mut s, 1, 0));
-    say_signed(vgic::initialise(&mut s, 0x1_0000_0000, 0));
-    say_signed(vgic::initialise(&mut s, 0, 0));
+    say_signed(vgic::get_attribute(&s, 4, 0));
+    say_signed(vgic::set_attribute(&mut s, 4, 1, 0));
+    say_signed(vgic::set_attribute(&mut s, 4, 0x1_0000_0000, 0));
+    say_signed(vgic::set_attribute(&mut s, 4, 0, 0));
     say_words(&s);
     say(b"initialised: get 0, set 1, set 0:");
     vgic::add_vcpu(&mut s, Mpidr(0));
-    vgic::initialise(&mut s, 0, 0);
-    say_signed(vgic::get_initialise(&s, 0));
-    say_signed(vgic::initialise(&mut s, 1, 0));
-    say_signed(vgic::initialise(&mut s, 0, 0));
+    vgic::set_attribute(&mut s, 4, 0, 0);
+    say_signed(vgic::get_attribute(&s, 4, 0));
+    say_signed(vgic::set_attribute(&mut s, 4, 1, 0));
+    say_signed(vgic::set_attribute(&mut s, 4, 0, 0));
     say_words(&s);
 }
 
@@ -236,13 +236,13 @@ fn running_flags() {
     let mut s = [0u32; 1760];
     say(b"not initialised: run 0, run 5:");
     vgic::make(&mut s);
-    vgic::set_count(&mut s, 0, 64);
+    vgic::set_attribute(&mut s, 3, 0, 64);
     vgic::add_vcpu(&mut s, Mpidr(3));
     say_run(&mut s, 0);
     say_run(&mut s, 5);
     say_words(&s);
     say(b"initialised: run 0, run 1, run 3, run ffffffffffffffff:");
-    vgic::initialise(&mut s, 0, 0);
+    vgic::set_attribute(&mut s, 4, 0, 0);
     say_run(&mut s, 0);
     say_run(&mut s, 1);
     say_run(&mut s, 3);
@@ -259,11 +259,11 @@ fn run_one_of_three() {
     let mut s = [0u32; 1760];
     say(b"three vCPUs: run 1, run 2, stop 1, stop 0:");
     vgic::make(&mut s);
-    vgic::set_count(&mut s, 0, 64);
+    vgic::set_attribute(&mut s, 3, 0, 64);
     vgic::add_vcpu(&mut s, Mpidr(0));
     vgic::add_vcpu(&mut s, Mpidr(1));
     vgic::add_vcpu(&mut s, Mpidr(2));
-    vgic::initialise(&mut s, 0, 0);
+    vgic::set_attribute(&mut s, 4, 0, 0);
     say_run(&mut s, 1);
     say_run(&mut s, 2);
     say_signed(vgic::set_running(&mut s, VcpuIndex(1), false));
@@ -273,12 +273,12 @@ fn run_one_of_three() {
 
 fn eight_initialised() {
     let mut s = eight_vcpus();
-    vgic::initialise(&mut s, 0, 0);
+    vgic::set_attribute(&mut s, 4, 0, 0);
     say(b"eight, initialised: bad, used, free, get 7:");
     say_add(&mut s, 0x10);
     say_add(&mut s, 0x700);
     say_add(&mut s, 0x0f);
-    say_signed(vgic::get_initialise(&s, 7));
+    say_signed(vgic::get_attribute(&s, 4, 7));
     say(b"\n");
 }
 
@@ -290,9 +290,9 @@ fn fault_first() {
     say_add(&mut s, 0x10);
     say_add(&mut s, 0);
     say_run(&mut s, 9);
-    say_signed(vgic::set_count(&mut s, 0, 32));
-    say_signed(vgic::initialise(&mut s, 1, 0));
-    say_signed(vgic::get_initialise(&s, 7));
+    say_signed(vgic::set_attribute(&mut s, 3, 0, 32));
+    say_signed(vgic::set_attribute(&mut s, 4, 1, 0));
+    say_signed(vgic::get_attribute(&s, 4, 7));
     say_words(&s);
 }
 
@@ -467,10 +467,10 @@ fn same_words(a: &[u32], b: &[u32]) -> bool {
 fn say_calls(s: &mut [u32], before: &[u32]) {
     say_signed(vgic::add_vcpu(s, Mpidr(2)));
     say_signed(vgic::set_running(s, VcpuIndex(0), true));
-    say_signed(vgic::set_count(s, 0, 64));
-    say_signed(vgic::get_count(s, 0));
-    say_signed(vgic::initialise(s, 0, 0));
-    say_signed(vgic::get_initialise(s, 0));
+    say_signed(vgic::set_attribute(s, 3, 0, 64));
+    say_signed(vgic::get_attribute(s, 3, 0));
+    say_signed(vgic::set_attribute(s, 4, 0, 0));
+    say_signed(vgic::get_attribute(s, 4, 0));
     if same_words(s, before) {
         say(b" kept\n");
     } else {
@@ -494,7 +494,7 @@ fn place_case(state: [u32; 1760], row: [u32; 3]) {
     say_decimal(at as u64);
     say_hex(first as u64);
     say(b":");
-    say_signed(vgic::get_count(&s, 0));
+    say_signed(vgic::get_attribute(&s, 3, 0));
     store(&mut s, at, second);
     let before = s;
     say_hex(second as u64);
@@ -514,7 +514,7 @@ fn place_cases(state: [u32; 1760], rows: &[[u32; 3]]) {
 fn one_vcpu() -> [u32; 1760] {
     let mut s = [0u32; 1760];
     vgic::make(&mut s);
-    vgic::set_count(&mut s, 0, 64);
+    vgic::set_attribute(&mut s, 3, 0, 64);
     vgic::add_vcpu(&mut s, Mpidr(0));
     s
 }
@@ -523,7 +523,7 @@ fn one_vcpu() -> [u32; 1760] {
 fn eight_vcpus() -> [u32; 1760] {
     let mut s = [0u32; 1760];
     vgic::make(&mut s);
-    vgic::set_count(&mut s, 0, 1024);
+    vgic::set_attribute(&mut s, 3, 0, 1024);
     vgic::add_vcpu(&mut s, Mpidr(0));
     vgic::add_vcpu(&mut s, Mpidr(0x100));
     vgic::add_vcpu(&mut s, Mpidr(0x200));
@@ -537,21 +537,21 @@ fn eight_vcpus() -> [u32; 1760] {
 
 fn used_words() {
     let mut s = one_vcpu();
-    vgic::initialise(&mut s, 0, 0);
+    vgic::set_attribute(&mut s, 4, 0, 0);
     say(b"count 64, one vCPU, initialised\n");
     place_cases(s, &USED);
 }
 
 fn whole_words() {
     let mut s = one_vcpu();
-    vgic::initialise(&mut s, 0, 0);
+    vgic::set_attribute(&mut s, 4, 0, 0);
     say(b"words that may have every bit\n");
     place_cases(s, &WHOLE);
 }
 
 fn full_words() {
     let mut s = eight_vcpus();
-    vgic::initialise(&mut s, 0, 0);
+    vgic::set_attribute(&mut s, 4, 0, 0);
     say(b"count 1024, eight vCPUs, initialised\n");
     place_cases(s, &FULL);
 }

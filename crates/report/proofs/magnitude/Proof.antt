@@ -1,10 +1,11 @@
--- `report::magnitude` is safe. Of a number y below 0, -1 - y is not negative and below 2 ^ 63.
+-- `report::magnitude` meets its contract. Of a number y below 0, -1 - y is not negative and below 2 ^ 63.
 use Prim.Native.Nat.{suc, _+_}
 use mathlib.Core.Path.{_≡_, _∙_}
 use mathlib.Core.Bool.{true, false, true≢false}
 use native.Mathlib.Nat.{not-suc-le-zero}
+use native.Mathlib.Numerals.{add-one}
 use native.Mathlib.Omega.{arith}
-use borrow.Author.Needs.{needs}
+use borrow.Author.Needs.{needs, sfits-of}
 use borrow.Author.Tests.{ltb-true}
 use lib.Dec.{T}
 use lib.IntN.{ℤ, pos, negsuc, natAbs, _-ℤ_, +ℤ-comm, -ℤ-one}
@@ -23,6 +24,10 @@ flipped : (y : ℤ) → ltZ y (pos 0) ≡ true → negsuc 0 -ℤ y ≡ pos (mag 
 flipped (pos n) h = absurd (not-suc-le-zero (ltb-true n 0 h))
 flipped (negsuc n) h = +ℤ-comm (negsuc 0) (pos (suc n)) ∙ -ℤ-one (pos (suc n))
 
+one-more : (y : ℤ) → ltZ y (pos 0) ≡ true → mag y + 1 ≡ natAbs y
+one-more (pos n) h = absurd (not-suc-le-zero (ltb-true n 0 h))
+one-more (negsuc n) h = add-one n
+
 module _ (y : ℤ) (below : ltZ y (pos 0) ≡ true) (f : SFits w64 y) where
   subtracts : SFits w64 (negsuc 0 -ℤ y)
   subtracts = rw (flipped y below) (record { sfits = f .sfits })
@@ -39,9 +44,16 @@ module _ (y : ℤ) (below : ltZ y (pos 0) ≡ true) (f : SFits w64 y) where
   adds : Fits w64 (natAbs (toZ w64 (ofZ w64 (negsuc 0 -ℤ y))) + 1)
   adds = rw read-back (record { fits = omega (arith, f .sfits) })
 
+  flips-back : natAbs (toZ w64 (ofZ w64 (negsuc 0 -ℤ y))) + 1 ≡ natAbs y
+  flips-back = rw read-back (one-more y below)
+
+-- the number is read from its bits
+read-flipped : (y : ℤ) → SFits w64 y → ltZ (toZ w64 (ofZ w64 y)) (pos 0) ≡ true → natAbs (toZ w64 (ofZ w64 (negsuc 0 -ℤ toZ w64 (ofZ w64 y)))) + 1 ≡ natAbs y
+read-flipped y f below = rw (toZ-ofZ f) (flips-back y (rw (toZ-ofZ f) at below) f)
+
 ruleset signed = (not-below, subtracts, casts, cast-fits, adds, sfits-toZ, fits-ofZ, fits-natAbs, tt)
 
 pub magnitude-spec : {M : Type 1} → statement M
 magnitude-spec =
     tie.close
-    (tie.spec (λ c. search signed) (λ c. search signed) (λ c. search signed) (λ c. search needs) (λ c. search signed) (λ c. search needs))
+    (tie.spec (λ c. search signed) (λ c. search signed) (λ c. search signed) (λ c. search (read-flipped, sfits-of)) (λ c. search signed) (λ c. search needs))
