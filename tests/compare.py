@@ -1,16 +1,21 @@
 #!/usr/bin/env python3
 """The compiled public calls against a model of the device in Python.
 
-    compare.py [SEED] [LINES]
+    compare.py [SEED] [LINES] [DEVICES]
 
 Builds the crate `abi` (rt staticlib) and tests/driver.c, which makes the calls
 of libabi.a.  The driver and xdrill.py get the same lines: some that visit every
-offset, every priority at every binary point and running level, and chains of
-preemption; then at least LINES random calls (100000), from gen.py's sessions
-SEED (1), SEED + 1 and so on, with accesses and unsound states of this script's
-own between them.  Each answer is compared, and often all words of the state.
-The driver itself sees to it that a refused call changes no word, and a read
-only where it is of IAR.
+offset, every encoding by attribute, every priority at every binary point and
+running level, and chains of preemption; records saved into buffers of every
+length, and restored whole and damaged at every place into devices of every kind
+(records.py); DEVICES (60) random stopped devices, each made again from a fresh
+one by puts of every listed attribute or by its record, and then the same calls on
+both; then at least LINES random calls (100000), from gen.py's sessions SEED (1),
+SEED + 1 and so on, with accesses and unsound states of this script's own between
+them.  Each answer is compared, a record with all its bytes, and often all words of
+the state, always after a restore.  The driver itself sees to it that a refused
+call changes no word, a read only where it is of IAR, and that save changes no byte
+but the record's.
 
 Prints how many calls of each kind were compared, how many were refused, and how
 often an acknowledge, an end of interrupt, an SGI or a signal came to something.
@@ -24,148 +29,14 @@ something is missing or cannot be built.
 import collections
 import itertools
 import os
-import random
 import subprocess
 import sys
 
+import records
 import sessions
+from lines import GROUPS, ROOT, U32, U64, UNKNOWN, Session, gen, xdrill
 
-ROOT = os.path.dirname(os.path.dirname(os.path.abspath(__file__)))
-ORACLE = os.environ.get("ORACLE") or os.path.join(ROOT, "..", "shared", "oracle")
 MADE = os.path.join(ROOT, "target", "compare")
-if not os.path.isfile(os.path.join(ORACLE, "xdrill.py")):
-    print("compare.py: no xdrill.py in %s; set ORACLE" % ORACLE)
-    sys.exit(2)
-gen, xdrill = sessions.load(ORACLE)
-
-GROUPS = (1, 3, 4, 5, 7)
-U32, U64 = xdrill.U32, xdrill.U64
-# 32 bits are the limit of the program `drill`; the calls take 64
-for name in (b"irqs", b"run", b"line", b"dr", b"dw", b"rr", b"rw", b"sr", b"sw",
-             b"sig"):
-    limits, reads, action = xdrill.PLAIN[name]
-    limits = tuple(U64 if limit == U32 else limit for limit in limits)
-    xdrill.PLAIN[name] = (limits, reads, action)
-
-
-# ---- lines -----------------------------------------------------------------
-
-def call_of(line):
-    """The call of a line and its numbers, or None if the driver has none."""
-    word, *numbers = line.split(b" ")
-    if word not in sessions.NUMBERS or not all(map(xdrill.HEX.fullmatch, numbers)):
-        return None
-    try:
-        call = sessions.NUMBERS[word](*[int(n, 16) for n in numbers])
-    except TypeError:
-        return None
-    if call[0] in ("getAttribute", "setAttribute") and call[1] not in GROUPS:
-        return None
-    return call
-
-
-def kind_of(call):
-    if call[0] in ("getAttribute", "setAttribute"):
-        return "%s, group %d" % call[:2]
-    return call[0]
-
-
-def moments(device):
-    """The AP registers and the latches of SGIs of each vCPU."""
-    return [(list(v.apr), [irq.latch for irq in v.private[:16]])
-            for v in device.vcpus]
-
-
-def came_to(call, answer, before, after):
-    """What an answered call of the CPU interface came to, if to anything."""
-    if call[0] == "querySignal":
-        return ["signal not 0"] if answer != "0" else []
-    if call[0] == "readSystem" and call[2] in gen.IAR and answer != "3ff":
-        deeper = any(before[call[1]][0])
-        return ["IAR that gave an ID"] + ["  of these, preemptions"] * deeper
-    if call[0] != "writeSystem" or before == after:
-        return []
-    if call[2] in gen.EOIR:
-        return ["EOIR that cleared a bit"]
-    if call[2] in (gen.SGI0R, gen.SGI1R):
-        return ["SGI write that latched"]
-    return []
-
-
-def words_text(words):
-    return "".join([" %d:%x" % (p, w) for p, w in enumerate(words) if w])
-
-
-class Session:
-    """Lines, and what xdrill answers to each; after each `every` calls all words."""
-
-    def __init__(self, name, every):
-        self.name, self.every = name, every
-        self.r = random.Random("compare/%s" % name)
-        self.drill = xdrill.Drill()
-        self.lines, self.answers = [], []
-        self.kinds, self.errnos = collections.Counter(), collections.Counter()
-        self.events = collections.Counter()
-        self.calls = 0
-
-    @property
-    def device(self):
-        return self.drill.device
-
-    def add(self, line, answer):
-        self.lines.append(line)
-        self.answers.append(answer)
-
-    def add_call(self, line, call, answer):
-        self.add(line, answer)
-        self.calls += 1
-        self.kinds[kind_of(call)] += 1
-        if answer.startswith("-"):
-            self.errnos[int(answer[1:])] += 1
-        if self.calls % self.every == 0:
-            self.look()
-
-    def look(self):
-        self.add(b"words", words_text(sessions.encode(self.device)))
-        self.add(b"dump", self.drill.dump())
-
-    def call(self, line):
-        """Adds a line, if it is a call that the driver has; its answer."""
-        call = call_of(line)
-        if call is None:
-            return None
-        before = moments(self.device)
-        answer = self.drill.line(line)
-        if answer == "?":
-            return None
-        self.add_call(line, call, answer)
-        if not answer.startswith("-"):
-            self.events.update(came_to(call, answer, before, moments(self.device)))
-        return answer
-
-    def every_call(self, lines):
-        for line in lines:
-            self.call(line)
-
-    def number(self, word, *numbers):
-        return self.call(b" ".join([word, *(b"%x" % n for n in numbers)]))
-
-    def unsound(self, line):
-        """A call on a state that is not sound: 14, but for a make of the right length."""
-        call = call_of(line)
-        if call is None or xdrill.Drill().line(line) == "?":
-            return
-        words = sessions.encode(self.device)
-        state = self.r.choice(sessions.damages(words, self.r))
-        makes = call[0] == "make"
-        if len(state) != len(words):
-            line, makes = b"length %x %s" % (len(state), line), False
-        else:
-            at = next(p for p in range(len(words)) if words[p] != state[p])
-            line = b"poke %x %x %s" % (at, state[at], line)
-        if makes:
-            self.drill = xdrill.Drill()
-        self.add_call(line, call, "ok" if makes else "-14")
 
 
 # ---- random accesses -------------------------------------------------------
@@ -305,20 +176,31 @@ class Accesses:
 
     def low(self, group):
         """Bits 31-0 of an attribute, and now and then more."""
+        if group == 6:
+            low = self.r.choice(self.r.choice([gen.SYS_BOTH, gen.SYS_ALL, UNLISTED]))
+            return low | (1 << self.r.randrange(16, 32) if self.r.random() < 0.05 else 0)
         if group != 7:
             return self.offset(DISTRIBUTOR if group == 1 else FRAME)
         odd = self.r.choice([1, 31, 1 << self.r.randrange(10, 32)])
         return 32 * self.r.randrange(33) + (odd if self.r.random() < 0.1 else 0)
 
+    def set_value(self, group, low):
+        """Mostly of 32 bits; for CTLR and SRE mostly one that matters."""
+        r, value = self.r, self.value()
+        if group == 6 and low in (gen.CTLR, gen.SRE):
+            return r.choice([0x400, 0x402, 7, r.randrange(0x800), 1 << 32 | 0x400,
+                             1 << 32 | 7, value])
+        return value & U32 if r.random() < 0.8 else value
+
     def attribute(self):
-        group = self.r.choice((1, 1, 1, 5, 5, 7, 7, self.r.choice(GROUPS)))
-        high = self.r.choice([v.affinity for v in self.s.device.vcpus]
-                             + [0, self.r.getrandbits(32)])
-        value = self.value()
-        if self.r.random() < 0.8:
-            value &= U32
-        place = (group, (high << 32) + self.low(group) & U64)
-        self.write_and_read(b"set", b"get", place, value)
+        r = self.r
+        group = r.choice((1, 1, 1, 5, 5, 6, 6, 7, 7, r.choice(GROUPS),
+                          r.choice(UNKNOWN)))
+        high = r.choice([v.affinity for v in self.s.device.vcpus]
+                        + [0, r.getrandbits(32)])
+        low = self.low(group)
+        place = (group, (high << 32) + low & U64)
+        self.write_and_read(b"set", b"get", place, self.set_value(group, low))
 
     def any(self):
         stopped = not self.s.device.any_running()
@@ -372,6 +254,23 @@ def every_offset(count):
     sweep(session, b"wdb", b"rdb", [(0, at) for at in range(0x3F0, 0x810)])
     sweep(session, b"wrb", b"rrb", [(0, f, at) for at in range(0x103F0, 0x10430)
                                     for f in (0, 1)])
+    session.look()
+    return session
+
+
+def every_encoding():
+    """Each encoding around the listed ones by attribute, bits 31-16 of each, each value of CTLR and SRE."""
+    session = Session("every encoding", 64)
+    session.every_call([b"new", b"irqs 60", b"vcpu 10203", b"vcpu f", b"init"])
+    affinities = (0x10203, 0xF)
+    encodings = [*range(0xC200, 0xC240), *range(0xC600, 0xC680),
+                 *(e | 1 << k for e in gen.SYS_ALL for k in range(16, 32))]
+    sweep(session, b"set", b"get", [(6, a << 32 | e) for e in encodings
+                                    for a in affinities])
+    for encoding, values in ((gen.CTLR, range(0x810)), (gen.SRE, range(0x20))):
+        for value in (*values, *(v | 1 << k for k in range(11, 64) for v in (0x402, 7))):
+            session.number(b"set", 6, 0xF << 32 | encoding, value)
+            session.number(b"get", 6, 0xF << 32 | encoding)
     session.look()
     return session
 
@@ -519,25 +418,30 @@ def compare(driver, session):
     return False
 
 
+EVENTS = ("IAR that gave an ID", "  of these, preemptions", "EOIR that cleared a bit",
+          "SGI write that latched", "signal not 0", *records.EVENTS)
+
+
 def report(done):
     kinds = sum((s.kinds for s in done), collections.Counter())
     errnos = sum((s.errnos for s in done), collections.Counter())
     events = sum((s.events for s in done), collections.Counter())
     for kind, n in sorted(kinds.items()):
-        print("%-24s %8d" % (kind, n))
+        print("%-28s %8d" % (kind, n))
     for errno, n in sorted(errnos.items()):
-        print("%-24s %8d" % ("refused with -%d" % errno, n))
-    for event in ("IAR that gave an ID", "  of these, preemptions",
-                  "EOIR that cleared a bit", "SGI write that latched", "signal not 0"):
-        print("%-24s %8d" % (event, events[event]))
+        print("%-28s %8d" % ("refused with -%d" % errno, n))
+    for event in EVENTS:
+        print("%-28s %8d" % (event, events[event]))
     print("%d calls compared, %d of them refused, and all words %d times; none differ"
           % (sum(kinds.values()), sum(errnos.values()),
              sum(s.lines.count(b"words") for s in done)))
 
 
-def every_session(seed, wanted):
+def every_session(seed, wanted, devices):
+    yield from records.every_session(seed, devices)
     yield every_offset(64)
     yield every_offset(1024)
+    yield every_encoding()
     yield every_priority()
     yield every_chain()
     calls = 0
@@ -551,8 +455,9 @@ def every_session(seed, wanted):
 def main():
     seed = int(sys.argv[1]) if len(sys.argv) > 1 else 1
     wanted = int(sys.argv[2]) if len(sys.argv) > 2 else 100000
+    devices = int(sys.argv[3]) if len(sys.argv) > 3 else 60
     driver, done = build(), []
-    for session in every_session(seed, wanted):
+    for session in every_session(seed, wanted, devices):
         if not compare(driver, session):
             return 1
         done.append(session)
