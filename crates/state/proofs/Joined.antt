@@ -1,14 +1,14 @@
 -- Laws of `Clear`, for loops that join words by `|`.
-use Prim.Native.Nat.{ℕ, zero, suc, _+_, _-_, _%_, _≤_, _<_}
+use Prim.Native.Nat.{ℕ, zero, suc, _+_, _-_, _/_, _%_, _^_, _≤_, _<_}
 use mathlib.Core.Path.{_≡_, refl, sym, _∙_, subst}
-use mathlib.Core.List.{List}
-use native.Mathlib.Nat.{zero-add, sub-self, zero-mod, mod-zero, mod-add-mod, mod-eq-of-lt, mod-eq-sub-mod, add-mod-right}
+use mathlib.Core.List.{List, [], _∷_}
+use native.Mathlib.Nat.{zero-add, add-zero, mod-one, sub-self, zero-mod, mod-zero, mod-add-mod, mod-eq-of-lt, mod-eq-sub-mod, add-mod-right}
 use native.Mathlib.Decide.{decLt}
 use native.Mathlib.Omega.{arith}
 use lib.Bits.{bitAnd, bitOr}
 use lib.ListN.{length, getD}
-use Rattle.words.proofs.Masks.{or-left, or-right, or-none}
-use Rattle.state.specs.Clear.{Apart, Clear}
+use Rattle.words.proofs.Masks.{or-left, or-right, or-none, and-over-or, and-none}
+use Rattle.state.specs.Clear.{Apart, Clear, Joins}
 
 module _ {P : ℕ → Type 0} where
   -- no place, one place, and two parts that meet
@@ -86,3 +86,36 @@ module _ {s row : List ℕ} where
           let l = t .ordered in
           let q : k - a ≡ i - a + (k - i) = omega arith in
           rw q (sym (mod-add-mod (i - a) (length row) (k - i)) ∙ rw (d, zero-add))
+
+-- ---- words joined with no row
+
+-- the words of two halves, a and b on, up to i of each
+pub record Halves (s : List ℕ) (a b i low high : ℕ) : Type 0 where
+  pub first : Joins s a (a + i) low
+  pub second : Joins s b (b + i) high
+
+module _ (s : List ℕ) where
+  joins-none : (a : ℕ) → Joins s a (a + 0) 0
+  joins-none a = record { tells = λ m h. rw (add-zero, and-none m) (clear-none a) }
+
+  joins-word : (a i x : ℕ) → Joins s a (a + i) x → Joins s a (a + (i + 1)) (bitOr x (getD s (a + i) 0))
+  joins-word a i x j = record {
+    tells = λ m h. rw (and-over-or x (getD s (a + i) 0) m h) (clear-join (j .tells m h) (clear-one (a + i) (a + (i + 1)) (bitAnd (getD s (a + i) 0) m) (omega arith) (λ z. z) (λ z. z)));
+  }
+
+  pub halves-none : (a b : ℕ) → Halves s a b 0 0 0
+  halves-none a b = record { first = joins-none a; second = joins-none b }
+
+  module _ (a b i low high : ℕ) (h : Halves s a b i low high) where
+    pub halves-more : Halves s a b (i + 1) (bitOr low (getD s (a + i) 0)) (bitOr high (getD s (b + i) 0))
+    halves-more = record { first = joins-word a i low (h .first); second = joins-word b i high (h .second) }
+
+    pub halves-joined : (e : ℕ) → b ≡ a + (e - a) / 2 → a ≤ e → (e - a) % 2 ≡ 0 → (e - a) / 2 ≤ i → i ≤ (e - a) / 2 → Joins s a e (bitOr low high)
+    halves-joined e p l q f g =
+        let k : a + i ≡ b = omega arith in
+        let n : b + i ≡ e = omega arith in
+        record { tells = λ m u. rw (and-over-or low high m u) (clear-join (rw k at (h .first .tells m u)) (rw n at (h .second .tells m u))) }
+
+  -- the same bits of each
+  pub joins-apart : (a e r m : ℕ) → Joins s a e r → m < 2 ^ 32 → Clear (Apart s (m ∷ []) a) a e (bitAnd r m)
+  joins-apart a e r m j u = clear-as (λ k l n z. record { apart = rw mod-one z }) (λ k l n z. rw mod-one at (z .apart)) (j .tells m u)

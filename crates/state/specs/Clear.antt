@@ -1,5 +1,5 @@
 -- What the bits of many words, joined by `|`, tell of each of them.
-use Prim.Native.Nat.{ℕ, _-_, _%_, _≤_, _<_}
+use Prim.Native.Nat.{ℕ, _-_, _%_, _^_, _≤_, _<_}
 use mathlib.Core.Path.{_≡_}
 use mathlib.Core.List.{List}
 use lib.Bits.{bitAnd}
@@ -14,3 +14,7 @@ pub record Clear (P : ℕ → Type 0) (a e r : ℕ) : Type 0 where
   pub ordered : a ≤ e
   pub all : r ≡ 0 → (k : ℕ) → a ≤ k → k < e → P k
   pub none : ((k : ℕ) → a ≤ k → k < e → P k) → r ≡ 0
+
+-- r has a bit exactly where some word from a up to e has it: of any bits m it has none exactly where none of these words has one
+pub record Joins (s : List ℕ) (a e r : ℕ) : Type 0 where
+  pub tells : (m : ℕ) → m < 2 ^ 32 → Clear (λ k. bitAnd (getD s k 0) m ≡ 0) a e (bitAnd r m)

@@ -21,7 +21,7 @@ use model::layout::VCPUS;
 use words::with_bit;
 ghost use mathlib.Core.Path.{_≡_};
 ghost use mathlib.Core.Bool.{true};
-ghost use mathlib.Core.List.{_∷_};
+ghost use mathlib.Core.List.{[], _∷_};
 ghost use Prim.Native.Nat.{_+_, _-_, _%_, _≤_, _<_};
 ghost use lib.Dec.{eqb};
 ghost use lib.ListN.{length, set};
@@ -32,7 +32,7 @@ ghost use Rattle.model.specs.Sound.{usedBits, freshBits, fits, wordOk, isCount,
 ghost use Rattle.model.specs.Refusals.{firstFailing};
 ghost use Rattle.model.specs.Calls.{vcpuChecks};
 ghost use Rattle.model.specs.declared.Errno.the-variants.{Efault};
-ghost use Rattle.state.specs.Clear.{Apart, Clear};
+ghost use Rattle.state.specs.Clear.{Apart, Clear, Joins};
 ghost use Rattle.state.specs.Lookup.{found};
 
 // The index of a vCPU, from 0 up in the order added.
@@ -279,6 +279,32 @@ fn misfit(s: &[u32], a: usize, e: usize, row: &[u32]) -> u32
     joined
 }
 
+// The words of `s` from `a` up to `e`, joined: two halves in one loop, of which LLVM makes vector code with twice the words to a turn.
+fn join_words(s: &[u32], a: usize, e: usize) -> u32
+    requires { ⌜ (length (now s) ≡ stateLength) × (a ≤ e) × (e ≤ stateLength) × ((e - a) % 2 ≡ 0) ⌝ }
+    ensures { λ r. ⌜ Joins (now (s .entry)) a e r ⌝ }
+{
+    let half = (e - a) / 2;
+    let b = a + half;
+    let mut low: u32 = 0;
+    let mut high: u32 = 0;
+    let mut i: usize = 0;
+    while i < half {
+        low = low | s[a + i];
+        high = high | s[b + i];
+        i += 1;
+    }
+    low | high
+}
+
+// The bits that the words from `a` up to `e` share with `bits`, the same for each of them, joined.
+fn misfit_words(s: &[u32], a: usize, e: usize, bits: u32) -> u32
+    requires { ⌜ (length (now s) ≡ stateLength) × (a ≤ e) × (e ≤ stateLength) × ((e - a) % 2 ≡ 0) ⌝ }
+    ensures { λ r. ⌜ Clear (Apart (now (s .entry)) (bits ∷ []) a) a e r ⌝ }
+{
+    join_words(s, a, e) & bits
+}
+
 // Each word has only the bits that it may have in an initialised device.
 fn used_fits(s: &[u32], count: usize, n: usize) -> bool
     requires { ⌜ (length (now s) ≡ stateLength) × (64 ≤ count) × (count ≤ 1024) × (count % 32 ≡ 0) × (n ≤ mostVcpus) ⌝ }
@@ -292,12 +318,12 @@ fn used_fits(s: &[u32], count: usize, n: usize) -> bool
     let routes_end = ROUTES + (count - 32 - 4 * last);
     let joined = misfit(s, 0, BLOCKS, &masks::HEADER)
         | misfit(s, BLOCKS, blocks_end, &masks::BLOCK)
-        | misfit(s, blocks_end, BANKS, &masks::ABSENT)
+        | misfit_words(s, blocks_end, BANKS, masks::ABSENT)
         | misfit(s, BANKS, banks_end, &masks::BANK)
         | misfit(s, banks_end, last_end, &masks::LAST_BANK)
-        | misfit(s, last_end, ROUTES, &masks::ABSENT)
-        | misfit(s, ROUTES, routes_end, &masks::ROUTE)
-        | misfit(s, routes_end, STATE_LENGTH, &masks::ABSENT);
+        | misfit_words(s, last_end, ROUTES, masks::ABSENT)
+        | misfit_words(s, ROUTES, routes_end, masks::ROUTE)
+        | misfit_words(s, routes_end, STATE_LENGTH, masks::ABSENT);
     joined == 0
 }
 
@@ -309,7 +335,7 @@ fn fresh_fits(s: &[u32], n: usize) -> bool
     let blocks_end = BLOCKS + BLOCK_LENGTH * n;
     let joined = misfit(s, 0, BLOCKS, &masks::FRESH_HEADER)
         | misfit(s, BLOCKS, blocks_end, &masks::FRESH_BLOCK)
-        | misfit(s, blocks_end, STATE_LENGTH, &masks::ABSENT);
+        | misfit_words(s, blocks_end, STATE_LENGTH, masks::ABSENT);
     joined == 0
 }
 

@@ -97,10 +97,10 @@ pub const LAST_BANK: [u32; 16] = [
 ];
 
 // An SPI's route.
-pub const ROUTE: [u32; 1] = [0xff00_0000];
+pub const ROUTE: u32 = 0xff00_0000;
 
 // What does not exist has no bit.
-pub const ABSENT: [u32; 1] = [0xffff_ffff];
+pub const ABSENT: u32 = 0xffff_ffff;
 
 // The words of the device itself, where it is fresh.
 pub const FRESH_HEADER: [u32; 16] = [

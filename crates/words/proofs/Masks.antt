@@ -1,15 +1,15 @@
 -- Tests of words by `&` and `|`: w has no bit outside the mask m, a and b are both 0.
 use Prim.Native.Nat.{ℕ, _-_, _^_, _<_}
-use mathlib.Core.Path.{_≡_, refl, sym, ap, _∙_}
-use mathlib.Core.Bool.{Bool, true, false, not, _&&_}
+use mathlib.Core.Path.{_≡_, refl, sym, ap, ap₂, _∙_}
+use mathlib.Core.Bool.{Bool, true, false, not, _&&_, _||_, or-false}
 use native.Mathlib.Omega.{arith}
 use borrow.Author.Tests.{not-false}
-use lib.Bits.{bitAnd, bitOr, or-add-and, and-le-l, and-le-r, or-zero-l}
+use lib.Bits.{bitAnd, bitOr, or-add-and, and-le-l, and-le-r, or-zero-l, or-lt}
 use Rattle.model.specs.Words.{bit, gather}
 use Rattle.model.specs.Sound.{fits}
 use Rattle.model.proofs.Bits.{word-is}
 use Rattle.model.proofs.Within.{bit-none, fits-lt, fits-bit, bits-fit}
-use Rattle.words.proofs.Operators.{bit-and, bit-not}
+use Rattle.words.proofs.Operators.{bit-and, bit-or, bit-not}
 
 -- the bits of w outside m
 outside : (w m : ℕ) → m < 2 ^ 32 → (i : ℕ) → i < 32 → bit (bitAnd w (0xffffffff - m)) i ≡ (bit w i && not (bit m i))
@@ -39,3 +39,22 @@ or-right a b e = omega (arith, or-add-and a b, and-le-l a b)
 
 pub or-none : (a b : ℕ) → a ≡ 0 → b ≡ 0 → bitOr a b ≡ 0
 or-none a b p q = rw (p, q) (or-zero-l 0)
+
+-- the bits of m in `a | b` are those in a and those in b
+pub and-over-or : (a b m : ℕ) → m < 2 ^ 32 → bitAnd (bitOr a b) m ≡ bitOr (bitAnd a m) (bitAnd b m)
+and-over-or a b m h =
+    word-is 32 (bitAnd (bitOr a b) m) shared (omega (arith, and-le-r (bitOr a b) m)) (λ i l. bit-and (bitOr a b) m i ∙ ap (λ (t : Bool). t && bit m i) (bit-or a b i))
+    ∙ sym (word-is 32 (bitOr (bitAnd a m) (bitAnd b m)) shared (or-lt 32 (bitAnd a m) (bitAnd b m) (omega (arith, and-le-r a m)) (omega (arith, and-le-r b m))) (λ i l. bit-or (bitAnd a m) (bitAnd b m) i ∙ ap₂ _||_ (bit-and a m i) (bit-and b m i) ∙ both-or (bit a i) (bit b i) (bit m i)))
+  where
+    shared : ℕ → Bool
+    shared i = (bit a i || bit b i) && bit m i
+
+    both-or : (p q r : Bool) → ((p && r) || (q && r)) ≡ ((p || q) && r)
+    both-or true true true = refl
+    both-or true true false = refl
+    both-or true false r = or-false r
+    both-or false q r = refl
+
+-- 0 has none
+pub and-none : (m : ℕ) → bitAnd 0 m ≡ 0
+and-none m = omega (arith, and-le-l 0 m)

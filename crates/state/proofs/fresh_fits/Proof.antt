@@ -10,16 +10,16 @@ use Rattle.state.proofs.fresh_fits.Tie as tie
 returns : tie.Need-returns
 unfolding opposite allBelow
 returns c =
-    let c₂ = c .before .before in
+    let c₂ = c .before in
     let c₁ = c₂ .before .before in
     let known = c₁ .before .before in
     let given = known .before .pre in
     fresh-same _ (given .1) (given .0) (λ k. known .shared-slice-known .given k .fits)
-    (c₁ .misfit .ensures) (c₂ .misfit2 .ensures) (c .misfit3 .ensures)
+    (c₁ .misfit .ensures) (c₂ .misfit2 .ensures) (c .misfit-words .ensures)
     refl refl refl
 
 pub fresh-fits-spec : {M : Type 1} → statement M
 fresh-fits-spec =
     tie.close
     (tie.spec (λ c. search needs) (λ c. search needs) (λ c. search needs) (λ c κs. search needs) (λ c. search needs) (λ c κs. search needs)
-    (λ c. search needs) (λ c κs. search needs) returns)
+    (λ c κs. search needs) returns)
