@@ -156,8 +156,9 @@ module _ (s : List ℕ) (v : ℕ) where
 
   -- one turn of the inner loop takes b to r
   module _ (b w m r : ℕ) (n : Inner b w m) (p : ¬ (m ≡ 0)) (e : r ≡ step w (trailingZeros 32 m) b) where
-    pub onward : (q : ℕ) → q ≡ rest m → q < m → 1024 ≤ r → Inner r w q
-    onward q z k h =
+    pub onward : (q d : ℕ) → q ≡ rest m → q < m → d ≤ r → 1024 ≤ d → Inner r w q
+    onward q d z k j i =
+        let h : 1024 ≤ r = omega arith in
         let l : 0 < m = omega arith in
         let next : over (step w) 32 0 m b ≡ over (step w) 32 0 (rest m) r =
         over-next (step w) 32 0 m b l (n .small) ∙ cc (lower-rest m l (n .small), zero-add (trailingZeros 32 m)) in

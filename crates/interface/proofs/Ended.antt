@@ -50,10 +50,10 @@ module _ (s : List ℕ) (v g id level : ℕ) (p h : Bool) (e : p ≡ exists s id
 
 -- ---- deactivate: m is EOImode, p tells whether there is such an interrupt
 
-module _ (s : List ℕ) (v id : ℕ) (m p : Bool) (k : m ≡ eoiMode s v) (e : p ≡ exists s id) where
-  pub deactivated-below : (m && p) ≡ true → id < 1024
-  deactivated-below y = exists-below s id (sym e ∙ both m p y .1)
+pub deactivated-below : (s : List ℕ) (id : ℕ) (m p : Bool) → p ≡ exists s id → (m && p) ≡ true → id < 1024
+deactivated-below s id m p e y = exists-below s id (sym e ∙ both m p y .1)
 
+module _ (s : List ℕ) (v id : ℕ) (m p : Bool) (k : m ≡ eoiMode s v) (e : p ≡ exists s id) where
   pub deactivated-one : (t : List ℕ) → (m && p) ≡ true → t ≡ setFlag activeField false v id s → t ≡ deactivated s v id
   unfolding deactivated
   deactivated-one t y q = rw (← k, ← e, y) q

@@ -43,8 +43,8 @@ module _ (s : List ℕ) (v g : ℕ) where
     pub one-small : word s (bprAt v 1) ≤ 7 → word s (at + 22) ≤ 8
     one-small l = rw a (omega arith)
 
-    pub zero-fits : word s (bprAt v 0) ≤ 7 → Fits w32 (word s (at + 21) + 1)
-    zero-fits l = record { fits = omega (arith, zero-small l) }
+    pub zero-fits : (k : ℕ) → k ≤ 1 → word s (bprAt v 0) ≤ 7 → Fits w32 (word s (at + 21) + k)
+    zero-fits k j l = record { fits = omega (arith, zero-small l) }
 
     pub lowest-level : (r : ℕ) → (r ≡ lowest (λ k. bit (word s (at + 23)) k || bit (word s (at + 24)) k) 32 0) × (r ≤ 32) → (r ≡ runningLevel s v) × (r ≤ 32)
     unfolding runningLevel

@@ -7,5 +7,5 @@ use Rattle.interface.proofs.acknowledge.cleared_bits.Tie as tie
 pub cleared-bits-spec : {M : Type 1} → statement M
 cleared-bits-spec =
     tie.close
-    (tie.spec (λ c κs. search needs) (λ c. search needs) (λ c. search needs) (λ c. search needs) (λ c. search zero-fits) (λ c. search needs)
+    (tie.spec (λ c κs. search needs) (λ c. search needs) (λ c. search needs) (λ c. search needs) (λ c. search (zero-fits, needs)) (λ c. search needs)
     (λ c. search needs) (λ c. search needs) (λ c. (search point-zero, search zero-small)) (λ c. (search point-one, search one-small)))

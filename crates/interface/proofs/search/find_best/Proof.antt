@@ -43,7 +43,7 @@ better-requires c κs =
     search needs
 
 loop-again : tie.Need-loop-again Inv-loop μ-loop Inv-search μ-search
-loop-again c = search onward
+loop-again c = search (onward, needs)
 
 search-again : tie.Need-search-again Inv-loop μ-loop Inv-search μ-search
 search-again c = (search needs, search leave)
