@@ -67,17 +67,17 @@ module _ (c n : ℕ) where
   unfolding slots
   after-header k l = past blank (run Header 0 (3 + n)) _ (3 + n) k (length-run blank Header 0 (3 + n)) l
 
-  pub slot-control : (k : ℕ) → k ≡ 3 + n → getD (slots c n) k blank ≡ Word 3 (Above 0x50 3)
+  slot-control : (k : ℕ) → k ≡ 3 + n → getD (slots c n) k blank ≡ Word 3 (Above 0x50 3)
   slot-control k e = let z : k - (3 + n) ≡ 0 = omega arith in after-header k (omega arith) ∙ rw z
 
-  pub slot-status : (k : ℕ) → k ≡ 4 + n → getD (slots c n) k blank ≡ Word 4 (Within 15)
+  slot-status : (k : ℕ) → k ≡ 4 + n → getD (slots c n) k blank ≡ Word 4 (Within 15)
   slot-status k e = let z : k - (3 + n) ≡ 1 = omega arith in after-header k (omega arith) ∙ rw z
 
   after-control : (k i : ℕ) → 5 + n ≤ k → i ≡ k - (5 + n) → getD (slots c n) k blank ≡ getD from-banks i blank
   after-control k i l e = let z : k - (3 + n) ≡ suc (suc i) = omega arith in after-header k (omega arith) ∙ rw z
 
   module _ (k i : ℕ) (l : 5 + n ≤ k) (e : i ≡ k - (5 + n)) where
-    pub slot-bank : i < 15 * spiWords c → getD (slots c n) k blank ≡ bankSlot (1 + i / 15) (i % 15)
+    slot-bank : i < 15 * spiWords c → getD (slots c n) k blank ≡ bankSlot (1 + i / 15) (i % 15)
     slot-bank h =
         after-control k i l e ∙ before blank (each bankSlots 1 (spiWords c)) from-routes (15 * spiWords c) i (length-each blank bankSlots 15 size-bank 1 (spiWords c)) h
         ∙ each-at blank bankSlots 15 size-bank (omega arith) 1 (spiWords c) i h ∙ run-at blank (bankSlot (1 + i / 15)) 0 15 (i % 15) (omega arith) ∙ ap (bankSlot (1 + i / 15)) (zero-add (i % 15))
@@ -85,11 +85,11 @@ module _ (c n : ℕ) where
     after-banks : 15 * spiWords c ≤ i → getD (slots c n) k blank ≡ getD from-routes (i - 15 * spiWords c) blank
     after-banks h = after-control k i l e ∙ past blank (each bankSlots 1 (spiWords c)) from-routes (15 * spiWords c) i (length-each blank bankSlots 15 size-bank 1 (spiWords c)) h
 
-    pub slot-route : (j : ℕ) → 15 * spiWords c ≤ i → j ≡ i - 15 * spiWords c → j < spis c → getD (slots c n) k blank ≡ routeSlot (32 + j)
+    slot-route : (j : ℕ) → 15 * spiWords c ≤ i → j ≡ i - 15 * spiWords c → j < spis c → getD (slots c n) k blank ≡ routeSlot (32 + j)
     slot-route j h f m =
         after-banks h ∙ rw (← f) (before blank (run routeSlot 32 (spis c)) from-vcpus (spis c) j (length-run blank routeSlot 32 (spis c)) m ∙ run-at blank routeSlot 32 (spis c) j m)
 
-    pub slot-vcpu : (x : ℕ) → 15 * spiWords c + spis c ≤ i → x ≡ i - (15 * spiWords c + spis c) → x < 22 * n → getD (slots c n) k blank ≡ vcpuSlot (x / 22) (x % 22)
+    slot-vcpu : (x : ℕ) → 15 * spiWords c + spis c ≤ i → x ≡ i - (15 * spiWords c + spis c) → x < 22 * n → getD (slots c n) k blank ≡ vcpuSlot (x / 22) (x % 22)
     slot-vcpu x h f m =
         after-banks (omega arith)
         ∙ past blank (run routeSlot 32 (spis c)) from-vcpus (spis c) (i - 15 * spiWords c) (length-run blank routeSlot 32 (spis c)) (least i (15 * spiWords c) (spis c) h)

@@ -1,15 +1,17 @@
 -- Save and restore by their tests: which refusal a branch has come to, and what the call does where none holds.
-use Prim.Native.Nat.{ℕ, _≤_, _<_}
+use Prim.Native.Nat.{ℕ, _≤_}
 use mathlib.Core.Path.{_≡_, refl, sym, _∙_}
 use mathlib.Core.Bool.{Bool, true, false, not}
-use mathlib.Core.List.{List, [], _∷_}
-use borrow.Author.Tests.{le-leb, lt-leb}
+use mathlib.Core.List.{List, [], _∷_, _++_}
+use native.Mathlib.Omega.{arith}
+use native.Mathlib.Nat.{zero-add}
+use borrow.Author.Tests.{leb-true}
 use lib.Dec.{leb}
 use lib.ListN.{length}
-use lib.Seq.{sets, length-sets}
-use Rattle.model.specs.Sound.{sound, stopped, fresh}
+use lib.Seq.{length-sets}
+use Rattle.model.specs.Sound.{sound, stopped}
 use Rattle.model.specs.Refusals.{firstFailing, number}
-use Rattle.model.specs.Record.{recordOf, saved, restored, faults, loadedState}
+use Rattle.model.specs.Record.{recordOf, saved, restored, faults}
 use Rattle.model.specs.Calls.{Does, call, save, restore, lentTo, acceptable, checks, refusal, lentBytes, filled, value, next}
 use Rattle.model.specs.Demands.{Stopped, Fresh}
 use Rattle.model.specs.declared.Errno.{Errno}
@@ -17,9 +19,10 @@ use Rattle.model.specs.declared.Errno.the-variants.{Efault, Ebusy, Enospc}
 use Rattle.model.specs.declared.Refusal.{Refusal}
 use Rattle.model.specs.declared.Refusal.the-variants.{None, Refuse}
 use Rattle.model.specs.declared.Answer.the-variants.{Value, Refused}
-use Rattle.model.proofs.Refused.{none-of, refusal-list, told-no, told-yes, refuses, grants}
+use Rattle.model.proofs.Refused.{none-then, fails-then, refusal-list, told-no, told-yes, refuses, grants}
 use Rattle.state.proofs.Admitted.{admitted}
-use Rattle.record.specs.Slots.{faultOf}
+use Rattle.record.specs.Slots.{faultOf, Where, Passes, deviceChecks}
+use Rattle.record.specs.Written.{Wrote}
 use Rattle.record.proofs.Bytes.{sets-front}
 
 -- ---- save
@@ -27,12 +30,12 @@ use Rattle.record.proofs.Bytes.{sets-front}
 pub asks-stopped : (s : List ℕ) (a c : Bool) → a ≡ sound s → not a ≡ false → c ≡ stopped s → not c ≡ false → Stopped s
 asks-stopped s a c ha la hc lc = record { is-sound = told-yes (sound s) a ha la; is-stopped = told-yes (stopped s) c hc lc }
 
-pub fill-room : (s : List ℕ) (n m : ℕ) → n ≡ length (recordOf s) → n ≤ m → length (recordOf s) ≤ m
-fill-room s n m hn l = rw hn at l
+pub fill-room : (s : List ℕ) (m : ℕ) (r : Bool) → r ≡ leb (length (recordOf s)) m → not r ≡ false → length (recordOf s) ≤ m
+fill-room s m r hr lr = leb-true _ _ (told-yes (leb (length (recordOf s)) m) r hr lr)
 
--- and the buffer keeps its length
-pub fill-within : (s b t : List ℕ) (n : ℕ) → n ≤ length b → t ≡ sets b 0 (recordOf s) → n ≤ length t
-fill-within s b t n l h = rw (h, length-sets b 0 (recordOf s)) l
+-- the record stands within the buffer, which keeps its length
+pub fill-within : (s b : List ℕ) (r : Bool) → r ≡ leb (length (recordOf s)) (length b) → not r ≡ false → (n : ℕ) (t : List ℕ) → Wrote b 0 (recordOf s) n t → n ≤ length t
+fill-within s b r hr lr n t w = rw (w .bytes, length-sets b 0 (recordOf s)) (omega (arith, w .place, fill-room s (length b) r hr lr))
 
 module _ (s b : List ℕ) (a : Bool) (ha : a ≡ sound s) where
   pub fill-unsound : not a ≡ true → Does (call (save b) s) (number (Refused Efault)) s b
@@ -45,53 +48,58 @@ module _ (s b : List ℕ) (a : Bool) (ha : a ≡ sound s) where
     fill-busy lc = refuses (save b) s b Ebusy (sym (refusal-list (save b) s ∙ rw (told-yes (sound s) a ha la, told-no (stopped s) c hc lc))) refl
 
     module _ (lc : not c ≡ false) where
-      module _ (n : ℕ) (hn : n ≡ length (recordOf s)) where
+      module _ (r : Bool) (hr : r ≡ leb (length (recordOf s)) (length b)) where
         -- the last test decides
         room-decides : (t : Bool) → leb (length (recordOf s)) (length b) ≡ t → refusal (save b) s ≡ firstFailing ((t, Enospc) ∷ [])
         unfolding lentTo acceptable checks firstFailing
         room-decides t h = refusal-list (save b) s ∙ rw (told-yes (sound s) a ha la, told-yes (stopped s) c hc lc, h)
 
-        pub fill-short : length b < n → Does (call (save b) s) (number (Refused Enospc)) s b
+        pub fill-short : not r ≡ true → Does (call (save b) s) (number (Refused Enospc)) s b
         unfolding lentTo lentBytes firstFailing
-        fill-short l = refuses (save b) s b Enospc (sym (room-decides false (lt-leb (length (recordOf s)) (length b) (rw hn at l)))) refl
+        fill-short lr = refuses (save b) s b Enospc (sym (room-decides false (told-no (leb (length (recordOf s)) (length b)) r hr lr))) refl
 
-        pub fill-done : n ≤ length b → (t : List ℕ) → t ≡ sets b 0 (recordOf s) → Does (call (save b) s) (number (Value n)) s t
+        pub fill-done : not r ≡ false → (n : ℕ) (t : List ℕ) → Wrote b 0 (recordOf s) n t → Does (call (save b) s) (number (Value n)) s t
         unfolding lentTo firstFailing value next filled saved
-        fill-done l t h =
-            let room = fill-room s n (length b) hn l in
-            grants (save b) s n s t (sym (room-decides true (le-leb (length (recordOf s)) (length b) room))) hn refl (h ∙ sets-front b (recordOf s) room)
+        fill-done lr n t w =
+            grants (save b) s n s t (sym (room-decides true (told-yes (leb (length (recordOf s)) (length b)) r hr lr))) (w .place ∙ zero-add _) refl
+            (w .bytes ∙ sets-front b (recordOf s) (fill-room s (length b) r hr lr))
 
--- ---- restore
+pub no-store : {P : Type 0} → Where false P
+no-store = record { so = λ e. let z : _≡_ {A = ℕ} 0 1 = cc in absurd (omega arith) }
 
--- the three tests hold, so the record decides
-module _ (s : List ℕ) (a c : Bool) (ha : a ≡ sound s) (la : not a ≡ false) (hc : c ≡ fresh s) (lc : not c ≡ false) where
-  pub asks-fresh : Fresh s
-  asks-fresh = record { is-sound = told-yes (sound s) a ha la; is-fresh = told-yes (fresh s) c hc lc }
+-- ---- restore: the tests of the device, then those of the record
 
-  pub record-decides : (bytes : List ℕ) (b : Bool) (r : Refusal) → b ≡ stopped s → not b ≡ false → r ≡ faultOf (restored s bytes)
-      → r ≡ firstFailing ((sound s, Efault) ∷ checks (restore bytes) s)
-  unfolding checks firstFailing faultOf
-  record-decides bytes b r hb lb h = rw (told-yes (sound s) a ha la, told-yes (stopped s) b hb lb, told-yes (fresh s) c hc lc) h
+module _ (s bytes : List ℕ) (r : Refusal) (h : r ≡ firstFailing ((sound s, Efault) ∷ deviceChecks s)) where
+  tests-are : refusal (restore bytes) s ≡ firstFailing (((sound s, Efault) ∷ deviceChecks s) ++ faults (restored s bytes))
+  unfolding lentTo acceptable checks deviceChecks
+  tests-are = refusal-list (restore bytes) s
 
-module _ (s bytes : List ℕ) where
-  module _ (r : Refusal) (h : r ≡ firstFailing ((sound s, Efault) ∷ checks (restore bytes) s)) where
-    tests-say : r ≡ refusal (restore bytes) s
-    unfolding lentTo acceptable
-    tests-say = h ∙ sym (refusal-list (restore bytes) s)
+  pub device-refused : (e : Errno) → r ≡ Refuse e → Does (call (restore bytes) s) (number (Refused e)) s bytes
+  unfolding lentTo lentBytes
+  device-refused e q = refuses (restore bytes) s bytes e (sym (tests-are ∙ fails-then ((sound s, Efault) ∷ deviceChecks s) (faults (restored s bytes)) e (sym h ∙ q))) refl
 
-    pub restore-refused : (e : Errno) → r ≡ Refuse e → Does (call (restore bytes) s) (number (Refused e)) s bytes
-    unfolding lentTo lentBytes
-    restore-refused e q = refuses (restore bytes) s bytes e (sym q ∙ tests-say) refl
+  module _ (q : r ≡ None) where
+    pub asks-fresh : (t : List ℕ) → t ≡ s → Fresh t
+    unfolding deviceChecks
+    asks-fresh t u = let p = admitted s r (deviceChecks s) h q in rw u (record { is-sound = p .0; is-fresh = p .1 .1 .0 })
 
-    module _ (q : r ≡ None) where
-      pub store-asks : (t : List ℕ) → t ≡ s → Fresh t
-      unfolding checks
-      store-asks t u = let p = admitted s r (checks (restore bytes) s) h q in rw u (record { is-sound = p .0; is-fresh = p .1 .1 .0 })
+    record-decides : refusal (restore bytes) s ≡ faultOf (restored s bytes)
+    unfolding faultOf
+    record-decides = tests-are ∙ none-then ((sound s, Efault) ∷ deviceChecks s) (faults (restored s bytes)) (sym h ∙ q)
 
-      pub none-faults : (t : List ℕ) → t ≡ s → faultOf (restored t bytes) ≡ None
-      unfolding checks faultOf
-      none-faults t u = let p = admitted s r (checks (restore bytes) s) h q in rw u (none-of (faults (restored s bytes)) (p .1 .1 .1))
+    -- t is what the pass that judges leaves: the device as it was
+    module _ (f : Refusal) (t : List ℕ) (g : Passes s bytes false f t) where
+      pub record-refused : (e : Errno) → f ≡ Refuse e → Does (call (restore bytes) s) (number (Refused e)) t bytes
+      unfolding lentTo lentBytes
+      record-refused e k = rw (g .left) (refuses (restore bytes) s bytes e (sym (record-decides ∙ sym (g .refusal) ∙ k)) refl)
 
-      pub restore-done : (t : List ℕ) → t ≡ loadedState s (restored s bytes) → Does (call (restore bytes) s) (number (Value 0)) t bytes
-      unfolding lentTo value next filled
-      restore-done t u = grants (restore bytes) s 0 t bytes (sym q ∙ tests-say) refl u refl
+      pub again-fresh : Fresh t
+      again-fresh = asks-fresh t (g .left)
+
+      module _ (k : f ≡ None) where
+        pub none-faults : (b : Bool) → Where b (faultOf (restored t bytes) ≡ None)
+        none-faults b = record { so = λ e. rw (g .left) (sym (g .refusal) ∙ k) }
+
+        pub restore-done : (r : Refusal) (u : List ℕ) → Passes t bytes true r u → Does (call (restore bytes) s) (number (Value 0)) u bytes
+        unfolding lentTo value next filled
+        restore-done r u w = grants (restore bytes) s 0 u bytes (sym (record-decides ∙ sym (g .refusal) ∙ k)) refl (rw (g .left) at (w .left)) refl

@@ -6,29 +6,27 @@ use mathlib.Core.List.{List, [], _∷_, _++_}
 use native.Mathlib.Omega.{arith}
 use borrow.Author.Tests.{eqb-true, eq-eqb, ne-eqb}
 use lib.Dec.{eqb}
-use lib.ListN.{length, getD}
+use lib.ListN.{getD}
 use Rattle.model.specs.Words.{bit, gather, each, allBelow, spread}
 use Rattle.model.specs.Layout.{mostVcpus, word, count, vcpus, affinity, block, routeAt}
 use Rattle.model.specs.Sound.{fits, usedBits, blockBits, bankBits, lastBankBits}
 use Rattle.model.specs.Attributes.{Attribute}
 use Rattle.model.specs.Record.{spiWords, spis, ofSpiWord, ofRoute, ofVcpuBlock, listed, Entry, header, attributeOf, entries}
-use Rattle.model.specs.Demands.{Stopped}
 use Rattle.model.proofs.Tests.{both, below-at}
-use Rattle.model.proofs.Soundness.{Ready, word-used, open-vcpu, stopped-ready}
+use Rattle.model.proofs.Soundness.{Ready, word-used, open-vcpu}
 use Rattle.model.proofs.Masks.{SpiWord, header-bits, block-is, bank-is, route-bits}
 use Rattle.model.proofs.Stores.{MayStore, Free, Outside, block-store, outside-store}
 use Rattle.model.proofs.Listed.{Listed, groups, enables, latches, actives, pmr, ctlr, bpr0, bpr1, ap0r, ap1r, igrpen0, igrpen1, control, status, spi-flags, spi-lines, spi-priority, spi-config, spi-route, vcpu-status, vcpu-flags, vcpu-lines, vcpu-priority, vcpu-system}
 use Rattle.model.proofs.Places.{Shape, itself, edges, above, placeOf, shapeOf}
 use Rattle.model.proofs.Places as places
-use Rattle.model.proofs.Cover.{place-inside}
 use Rattle.model.proofs.Cover as cover
 use Rattle.words.specs.Words.{collect}
-use Rattle.record.specs.Slots.{shown, flagBits, priorityBits, edgeBits, bankKind, bankSlot, bankSlots, privateKind, interfaceKind, vcpuSlot, vcpuSlots, routeSlot, run, slots, headerAt, Stands, heads, stands, Reads, Sized}
+use Rattle.record.specs.Slots.{shown, flagBits, priorityBits, edgeBits, bankKind, bankSlot, bankSlots, privateKind, interfaceKind, vcpuSlot, vcpuSlots, routeSlot, run, slots, headerAt, Sized}
 use Rattle.record.specs.declared.slots.Kind.{Kind}
 use Rattle.record.specs.declared.slots.Kind.the-variants.{Within, Above, Point}
 use Rattle.record.specs.declared.slots.Slot.{Slot}
 use Rattle.record.specs.declared.slots.Slot.the-variants.{Header, Word}
-use Rattle.record.proofs.Lists.{Match, none, one, match-append, match-each, match-length, match-at, match-map}
+use Rattle.record.proofs.Lists.{Match, none, one, match-append, match-each, match-map}
 use Rattle.record.proofs.Shapes.{maskOf, leastOf, Tidy}
 
 -- ---- what the kind says of the word at a listed attribute's place
@@ -191,14 +189,3 @@ module _ (s : List ℕ) (h : Ready s) where
 
   pub sized : Sized (count s) (vcpus s)
   sized = record { least = h .counted .least; most = h .counted .most; few = h .few }
-
-  -- each slot can be read
-  may-read : {e : Entry} {x : Slot} → Means s e x → Stands s x
-  may-read (fixes e l) = heads l
-  may-read (lists {k} l q) = stands {k = k} (place-inside s h l) (rw (q .alike) (cover.shows s h l .small))
-
-pub reads-slot : (s : List ℕ) → Stopped s → (k : ℕ) → k < length (slots (count s) (vcpus s)) → Reads s (getD (slots (count s) (vcpus s)) k (Header 0))
-reads-slot s st k l =
-    let h = stopped-ready s st in
-    let m = entries-mean s h in
-    record { size = h .size; inside = may-read s h (match-at (header 0) (Header 0) m k (rw (match-length m) l)) }

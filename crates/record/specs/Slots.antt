@@ -1,17 +1,17 @@
 -- The values of a record by their places in the state: for each the number of a header value, or the place of a word and how it is shown.
 -- Proofs tie these to the entries and the attributes of model's Record (proofs/Standing, proofs/Loading).
-use Prim.Native.Nat.{ℕ, _+_, _*_, _-_, _^_, _≤_, _<_}
+use Prim.Native.Nat.{ℕ, _+_, _*_, _-_, _≤_}
 use mathlib.Core.Bool.{Bool, true, false, cond, _&&_}
 use mathlib.Core.List.{List, [], _∷_, _++_}
 use mathlib.Core.Path.{_≡_}
 use lib.Dec.{eqb, ltb, leb}
-use lib.ListN.{length, set}
+use lib.ListN.{set}
 use Rattle.model.specs.Words.{each, spread}
-use Rattle.model.specs.Layout.{stateLength, mostVcpus, word, count, vcpus, affinity, block, routeAt}
-use Rattle.model.specs.Sound.{fits}
-use Rattle.model.specs.Refusals.{firstFailing}
-use Rattle.model.specs.Record.{version, spiWords, spis, encode, decodeNumber, Loaded, done, fault, taking, faults}
-use Rattle.model.specs.declared.Errno.the-variants.{Einval, Ebadmsg}
+use Rattle.model.specs.Layout.{mostVcpus, word, count, vcpus, affinity, block, routeAt}
+use Rattle.model.specs.Sound.{fits, stopped, fresh}
+use Rattle.model.specs.Refusals.{Check, firstFailing}
+use Rattle.model.specs.Record.{version, spiWords, spis, encode, decodeNumber, Loaded, done, fault, taking, faults, restored, loadedState}
+use Rattle.model.specs.declared.Errno.the-variants.{Ebusy, Eexist, Einval, Ebadmsg}
 use Rattle.model.specs.declared.Refusal.{Refusal}
 use Rattle.model.specs.declared.Answer.{Answer}
 use Rattle.model.specs.declared.Answer.the-variants.{Value, Refused}
@@ -121,28 +121,14 @@ unfoldable pub slotRead : List ℕ → Slot → ℕ
 slotRead s (Header k) = headerAt s k
 slotRead s (Word p k) = shown k (word s p)
 
--- what reading a value asks: it stands in the state, and is a number of 32 bits
-pub data Stands (s : List ℕ) : Slot → Type 0 where
-  heads : {k : ℕ} → k < 3 + mostVcpus → Stands s (Header k)
-  stands : {p : ℕ} {k : Kind} → p < stateLength → shown k (word s p) < 2 ^ 32 → Stands s (Word p k)
-
-pub record Reads (s : List ℕ) (x : Slot) : Type 0 where
-  pub size : length s ≡ stateLength
-  pub inside : Stands s x
-
 -- t is the target
 unfoldable pub takes : List ℕ → Slot → ℕ → Bool
 takes t (Header k) x = eqb x (headerAt t k)
 takes t (Word p k) x = shows k x
 
--- what storing a value asks
-pub data Kept (s : List ℕ) : Slot → ℕ → Type 0 where
-  skips : {k x : ℕ} → Kept s (Header k) x
-  keeps : {p x : ℕ} {k : Kind} → p < stateLength → shows k x ≡ true → Kept s (Word p k) x
-
-pub record Storable (s : List ℕ) (y : Slot) (x : ℕ) : Type 0 where
-  pub size : length s ≡ stateLength
-  pub kept : Kept s y x
+-- P, where b is true
+pub record Where (b : Bool) (P : Type 0) : Type 0 where
+  pub so : b ≡ true → P
 
 unfoldable pub slotPut : List ℕ → Slot → ℕ → List ℕ
 slotPut s (Header k) x = s
@@ -159,9 +145,18 @@ loadSlots t [] [] s = done s
 loadSlots t [] (b ∷ bytes) s = fault Ebadmsg
 loadSlots t (x ∷ xs) bytes s = taking (decodeNumber bytes) (λ v r. elim (takes t x v) [ true ↦ loadSlots t xs r (slotPut s x v) | false ↦ fault Einval ])
 
+-- what restore asks of the device
+unfoldable pub deviceChecks : List ℕ → List Check
+deviceChecks s = (stopped s, Ebusy) ∷ (fresh s, Eexist) ∷ []
+
 -- what a record is refused with
 unfoldable pub faultOf : Loaded → Refusal
 faultOf l = firstFailing (faults l)
+
+-- a pass over a record answers its refusal, and leaves what was stored, or the target as it was
+pub record Passes (t bytes : List ℕ) (store : Bool) (r : Refusal) (s : List ℕ) : Type 0 where
+  pub refusal : r ≡ faultOf (restored t bytes)
+  pub left : s ≡ cond store (loadedState t (restored t bytes)) t
 
 -- how many bytes of its buffer save hands back
 abbrev pub frontLength : Answer → ℕ

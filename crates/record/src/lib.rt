@@ -1,4 +1,6 @@
 // The record: seven-bit numbers, save, restore.
+pub mod length;
+pub mod load;
 pub mod number;
 pub mod restore;
 pub mod save;

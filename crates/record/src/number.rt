@@ -4,12 +4,15 @@ ghost use Prim.Native.Nat.{_+_, _≤_, _<_};
 ghost use lib.ListN.{length, drop};
 ghost use lib.Seq.{sets};
 ghost use Rattle.model.specs.Record.{encode, readGroups, decodeNumber};
-ghost use Rattle.record.specs.Numbers.{Joined, Answers};
+ghost use Rattle.record.specs.Numbers.{GroupUnit, Ends, under, Answers};
 
 // A place in a record.
 pub struct Cursor {
     pub at: usize,
 }
+
+// What a 1 of the fifth group counts: no group follows it.
+const LAST_UNIT: u32 = 0x1000_0000;
 
 // What reading a number finds: its value and the place after it, or no number.
 pub enum Number {
@@ -19,38 +22,41 @@ pub enum Number {
 
 // ---- reading
 
-// The byte `b`, and the number after it, as one number: not 0 after it, or the form were not the shortest, and at most 2^32 - 1 in all.
-fn joined(b: u32, rest: Number) -> Number
-    requires { ⌜ (128 ≤ b) × (b < 256) ⌝ }
-    ensures { λ r. ⌜ Joined b rest r ⌝ }
+// The last group `b` of a number whose groups before it make `x`: each 1 of it counts `unit`. Not 0, or the form were not the shortest, and at most 2^32 - 1 in all.
+fn ended(x: u32, unit: u32, b: u32, next: usize) -> Number
+    requires { ⌜ GroupUnit unit × (x < unit) × (b < 128) ⌝ }
+    ensures { λ r. ⌜ Ends x unit b next r ⌝ }
 {
-    let Number::Value(v, next) = rest else {
-        return Number::Broken;
-    };
-    if v == 0 {
+    if b == 0 {
         return Number::Broken;
     }
-    if v >= 0x200_0000 {
+    if (unit == LAST_UNIT) & (b >= 16) {
         return Number::Broken;
     }
-    Number::Value(b - 128 + 128 * v, next)
+    Number::Value(x + unit * b, Cursor { at: next })
 }
 
-// The number of at most `left` groups that stands at a place.
-fn read_groups(src: &[u8], at: usize, left: u32) -> Number
-    ensures { λ r. ⌜ Answers (now (src .entry)) at (readGroups left (drop at (now (src .entry)))) r ⌝ }
+// The number of at most five groups whose first is `low`, the others from `at` on.
+fn read_on(src: &[u8], at: usize, low: u32) -> Number
+    requires { ⌜ low < 128 ⌝ }
+    ensures { λ r. ⌜ Answers (now (src .entry)) at (under low 128 (readGroups 4 (drop at (now (src .entry))))) r ⌝ }
 {
-    if left == 0 {
-        return Number::Broken;
+    let mut x = low;
+    let mut unit: u32 = 128;
+    let mut i = at;
+    while i < src.len() {
+        let b = wide(src[i]);
+        if b < 128 {
+            return ended(x, unit, b, i + 1);
+        }
+        if unit == LAST_UNIT {
+            return Number::Broken;
+        }
+        x += unit * (b - 128);
+        unit = unit * 128;
+        i += 1;
     }
-    if src.len() <= at {
-        return Number::Broken;
-    }
-    let b = wide(src[at]);
-    if b < 128 {
-        return Number::Value(b, Cursor { at: at + 1 });
-    }
-    joined(b, read_groups(src, at + 1, left - 1))
+    Number::Broken
 }
 
 // The number that stands at a place.
@@ -58,7 +64,14 @@ pub fn read_number(src: &[u8], c: Cursor) -> Number
     ensures { λ r. ⌜ Answers (now (src .entry)) (c .at) (decodeNumber (drop (c .at) (now (src .entry)))) r ⌝ }
 {
     let at = c.at;
-    read_groups(src, at, 5)
+    if src.len() <= at {
+        return Number::Broken;
+    }
+    let b = wide(src[at]);
+    if b < 128 {
+        return Number::Value(b, Cursor { at: at + 1 });
+    }
+    read_on(src, at + 1, b - 128)
 }
 
 fn wide(x: u8) -> u32

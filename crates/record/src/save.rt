@@ -1,69 +1,157 @@
-// Save: the length of a record is known before its first byte is written.
-use crate::number::number_length;
+// Save: there is room for the whole record before its first byte is written.
+use crate::length::has_room;
 use crate::number::write_number;
-use crate::slots::read_slot;
-use crate::slots::slot_at;
-use crate::slots::slot_count;
+use crate::slots::header_at;
+use crate::slots::spi_count;
 use model::Answer;
 use model::Errno;
+use model::layout::ACTIVE;
+use model::layout::BANK_LENGTH;
+use model::layout::BPR0;
 use model::layout::COUNT;
+use model::layout::CTLR;
+use model::layout::EDGES;
+use model::layout::ENABLES;
+use model::layout::FRAME_STATUS;
+use model::layout::IGRPEN0;
+use model::layout::LATCH;
+use model::layout::PMR;
+use model::layout::ROUTES;
+use model::layout::STATUS;
 use model::layout::VCPUS;
+use state::VcpuIndex;
+use state::block_at;
 use state::is_sound;
 use state::is_stopped;
+use words::spread;
 ghost use mathlib.Core.Path.{_≡_};
-ghost use Prim.Native.Nat.{_≤_, _<_};
-ghost use lib.ListN.{length, getD};
-ghost use lib.Seq.{sets};
+ghost use Prim.Native.Nat.{_+_, _≤_, _<_};
+ghost use lib.ListN.{length};
+ghost use Rattle.model.specs.Words.{each};
+ghost use Rattle.model.specs.Layout.{stateLength, mostVcpus, word, vcpus, ctlrAt};
 ghost use Rattle.model.specs.Refusals.{number};
-ghost use Rattle.model.specs.Record.{recordOf};
+ghost use Rattle.model.specs.Record.{spiWords, recordOf};
 ghost use Rattle.model.specs.Calls.{Does, call, save};
 ghost use Rattle.model.specs.Demands.{Stopped};
-ghost use Rattle.record.specs.Slots.{slotsOf, slotRead, frontLength};
+ghost use Rattle.record.specs.Slots.{run, bankSlots, vcpuSlots, slotBytes, frontLength};
+ghost use Rattle.record.specs.Written.{wordsBytes, flagsFrom, Wrote};
 ghost use Rattle.record.specs.declared.slots.Slot.the-variants.{Header};
 
-// How many values the record has.
-fn value_count(s: &[u32]) -> usize
-    requires { ⌜ Stopped (now s) ⌝ }
-    ensures { λ r. ⌜ (r ≡ length (slotsOf (now (s .entry)))) × (r ≤ 1642) ⌝ }
+// ---- the parts of the record, each written from `at` on; the answer is the place after it
+
+// Words that are shown as themselves.
+fn write_words(buf: &mut [u8], at: usize, words: &[u32]) -> usize
+    requires { ⌜ at + length (wordsBytes (now words)) ≤ length (now buf) ⌝ }
+    ensures { λ r. ⌜ Wrote (now (buf .entry)) at (wordsBytes (now (words .entry))) r (now (buf .exit)) ⌝ }
 {
-    slot_count(s[COUNT] as usize, s[VCPUS] as usize)
+    let mut next = at;
+    let mut i: usize = 0;
+    while i < words.len() {
+        next = write_number(buf, next, words[i]);
+        i += 1;
+    }
+    next
 }
 
-// Value `k` of the record.
-fn value_at(s: &[u32], k: usize) -> u32
-    requires { ⌜ Stopped (now s) × (k < length (slotsOf (now s))) ⌝ }
-    ensures { λ r. ⌜ r ≡ slotRead (now (s .entry)) (getD (slotsOf (now (s .entry))) k (Header 0)) ⌝ }
+// The header: version, count, vCPUs, each affinity.
+fn write_header(buf: &mut [u8], at: usize, s: &[u32], n: usize) -> usize
+    requires { ⌜ (length (now s) ≡ stateLength) × (n ≤ mostVcpus) × (at + length (slotBytes (now s) (run Header 0 (3 + n))) ≤ length (now buf)) ⌝ }
+    ensures { λ r. ⌜ Wrote (now (buf .entry)) at (slotBytes (now (s .entry)) (run Header 0 (3 + n))) r (now (buf .exit)) ⌝ }
 {
-    read_slot(s, slot_at(s[COUNT] as usize, s[VCPUS] as usize, k))
-}
-
-// The length of the record.
-fn record_length(s: &[u32]) -> usize
-    requires { ⌜ Stopped (now s) ⌝ }
-    ensures { λ r. ⌜ (r ≡ length (recordOf (now (s .entry)))) × (r ≤ 8210) ⌝ }
-{
-    let total = value_count(s);
-    let mut sum: usize = 0;
+    let end = 3 + n;
+    let mut next = at;
     let mut k: usize = 0;
-    while k < total {
-        sum += number_length(value_at(s, k));
+    while k < end {
+        next = write_number(buf, next, header_at(s, k));
         k += 1;
     }
-    sum
+    next
 }
 
-// Writes the record at the front of a buffer that has room for it.
-fn write_record(s: &[u32], buf: &mut [u8])
+// What the record says of the latches of a bank: the latch itself, not pending, in which the line of a level interrupt counts too.
+fn latch_at(s: &[u32], bank: usize) -> u32
+    requires { ⌜ (length (now s) ≡ stateLength) × (bank + 16 ≤ stateLength) ⌝ }
+    ensures { λ r. ⌜ r ≡ word (now (s .entry)) (bank + 2) ⌝ }
+{
+    s[bank + LATCH]
+}
+
+// The flags and priorities of a bank, which start at a place.
+fn write_flags(buf: &mut [u8], at: usize, s: &[u32], bank: usize) -> usize
+    requires { ⌜ (length (now s) ≡ stateLength) × (bank + 16 ≤ stateLength) × (at + length (flagsFrom (now s) bank) ≤ length (now buf)) ⌝ }
+    ensures { λ r. ⌜ Wrote (now (buf .entry)) at (flagsFrom (now (s .entry)) bank) r (now (buf .exit)) ⌝ }
+{
+    let latch = write_words(buf, at, &s[bank..bank + LATCH]);
+    let active = write_number(buf, latch, latch_at(s, bank));
+    write_words(buf, active, &s[bank + ACTIVE..bank + EDGES])
+}
+
+// The bank of SPI word `w`: flags and priorities, then the edge flags as ICFGR has them.
+fn write_bank(buf: &mut [u8], at: usize, s: &[u32], w: usize) -> usize
+    requires { ⌜ (length (now s) ≡ stateLength) × (w < 32) × (at + length (slotBytes (now s) (bankSlots w)) ≤ length (now buf)) ⌝ }
+    ensures { λ r. ⌜ Wrote (now (buf .entry)) at (slotBytes (now (s .entry)) (bankSlots w)) r (now (buf .exit)) ⌝ }
+{
+    let bank = 256 + BANK_LENGTH * w;
+    let low = write_flags(buf, at, s, bank);
+    let high = write_number(buf, low, spread(s[bank + EDGES]));
+    write_number(buf, high, spread(s[bank + (EDGES + 1)]))
+}
+
+// The banks of all SPI words.
+fn write_banks(buf: &mut [u8], at: usize, s: &[u32], count: usize) -> usize
+    requires { ⌜ (length (now s) ≡ stateLength) × (count ≤ 1024) × (at + length (slotBytes (now s) (each bankSlots 1 (spiWords count))) ≤ length (now buf)) ⌝ }
+    ensures { λ r. ⌜ Wrote (now (buf .entry)) at (slotBytes (now (s .entry)) (each bankSlots 1 (spiWords count))) r (now (buf .exit)) ⌝ }
+{
+    let end = count / 32;
+    let mut next = at;
+    let mut w: usize = 1;
+    while w < end {
+        next = write_bank(buf, next, s, w);
+        w += 1;
+    }
+    next
+}
+
+// The block of vCPU `v`: STATUSR, its bank without the edge flags, its CPU interface.
+fn write_vcpu(buf: &mut [u8], at: usize, s: &[u32], v: VcpuIndex) -> usize
+    requires { ⌜ (length (now s) ≡ stateLength) × (v .0 < mostVcpus) × (word (now s) (ctlrAt (v .0)) ≤ 2) × (at + length (slotBytes (now s) (vcpuSlots (v .0))) ≤ length (now buf)) ⌝ }
+    ensures { λ r. ⌜ Wrote (now (buf .entry)) at (slotBytes (now (s .entry)) (vcpuSlots (v .0))) r (now (buf .exit)) ⌝ }
+{
+    let block = block_at(v);
+    let bank = write_number(buf, at, s[block + FRAME_STATUS]);
+    let pmr = write_words(buf, bank, &s[block..block + EDGES]);
+    let ctlr = write_number(buf, pmr, s[block + PMR]);
+    let points = write_number(buf, ctlr, 0x400 + s[block + CTLR]);
+    write_words(buf, points, &s[block + BPR0..block + (IGRPEN0 + 2)])
+}
+
+// The blocks of all vCPUs.
+fn write_vcpus(buf: &mut [u8], at: usize, s: &[u32], n: usize) -> usize
+    requires { ⌜ Stopped (now s) × (n ≤ vcpus (now s)) × (at + length (slotBytes (now s) (each vcpuSlots 0 n)) ≤ length (now buf)) ⌝ }
+    ensures { λ r. ⌜ Wrote (now (buf .entry)) at (slotBytes (now (s .entry)) (each vcpuSlots 0 n)) r (now (buf .exit)) ⌝ }
+{
+    let mut next = at;
+    let mut v: usize = 0;
+    while v < n {
+        next = write_vcpu(buf, next, s, VcpuIndex(v));
+        v += 1;
+    }
+    next
+}
+
+// Writes the record at the front of a buffer that has room for it, and answers its length.
+fn write_record(buf: &mut [u8], s: &[u32]) -> usize
     requires { ⌜ Stopped (now s) × (length (recordOf (now s)) ≤ length (now buf)) ⌝ }
-    ensures { λ _. ⌜ now (buf .exit) ≡ sets (now (buf .entry)) 0 (recordOf (now (s .entry))) ⌝ }
+    ensures { λ r. ⌜ Wrote (now (buf .entry)) 0 (recordOf (now (s .entry))) r (now (buf .exit)) × (r ≤ 8210) ⌝ }
 {
-    let total = value_count(s);
-    let mut at: usize = 0;
-    let mut k: usize = 0;
-    while k < total {
-        at = write_number(buf, at, value_at(s, k));
-        k += 1;
-    }
+    let count = s[COUNT] as usize;
+    let n = s[VCPUS] as usize;
+    let control = write_header(buf, 0, s, n);
+    let status = write_number(buf, control, 0x50 + s[ENABLES]);
+    let banks = write_number(buf, status, s[STATUS]);
+    let routes = write_banks(buf, banks, s, count);
+    let blocks = write_words(buf, routes, &s[ROUTES..ROUTES + spi_count(count)]);
+    write_vcpus(buf, blocks, s, n)
 }
 
 // Fills the front of a buffer with the record: 14 not sound; 16 not initialised or running; 28 no room. The answer is the record's length.
@@ -76,12 +164,10 @@ pub fn fill(s: &[u32], buf: &mut [u8]) -> Answer
     if !is_stopped(s) {
         return Answer::Refused(Errno::Ebusy);
     }
-    let n = record_length(s);
-    if buf.len() < n {
+    if !has_room(s, buf.len()) {
         return Answer::Refused(Errno::Enospc);
     }
-    write_record(s, buf);
-    Answer::Value(n as u32)
+    Answer::Value(write_record(buf, s) as u32)
 }
 
 // The length of the front part that save hands back: the record's, or 0 where it was refused.

@@ -115,11 +115,13 @@ fn save(name: &[u8], s: &[u32; 1760]) {
     fill(s, &mut long);
     let mut again = [0xa5u8; 80];
     hand_back(s, &mut again);
+    let mut longest = [0xa5u8; 9000];
+    hand_back(s, &mut longest);
 }
 
 fn saves() {
     say(
-        b"save into 0, 75, 76 and 80 bytes of a5; of those of 75 and 80 the front part handed back\n",
+        b"save into 0, 75, 76 and 80 bytes of a5; of 75, 80 and 9000 the front part handed back\n",
     );
     let mut s = added(64);
     save(b"not initialised", &s);
