@@ -34,7 +34,7 @@ extern int64_t vgic_query_signal(const uint32_t *s, size_t n, size_t v);
 extern int64_t vgic_change_line(uint32_t *s, size_t n, size_t v, size_t id, bool level);
 extern int64_t vgic_get_attribute(const uint32_t *s, size_t n, uint64_t group, uint64_t attribute);
 extern int64_t vgic_set_attribute(uint32_t *s, size_t n, uint64_t group, uint64_t attribute, uint64_t value);
-extern int64_t vgic_save(const uint32_t *s, size_t n, uint8_t *buf, size_t length);
+extern void vgic_save(const uint32_t *s, size_t n, uint8_t *buf, size_t length, int64_t *result);
 extern int64_t vgic_restore(uint32_t *s, size_t n, const uint8_t *bytes, size_t length);
 
 /* the states of two devices, each between words that no call may write; the one that is called */
@@ -114,7 +114,7 @@ static int64_t sw(uint32_t *s, size_t n, const uint64_t *a) { return vgic_write_
 static int64_t sig(uint32_t *s, size_t n, const uint64_t *a) { return vgic_query_signal(s, n, a[0]); }
 static int64_t get(uint32_t *s, size_t n, const uint64_t *a) { return vgic_get_attribute(s, n, a[0], a[1]); }
 static int64_t set(uint32_t *s, size_t n, const uint64_t *a) { return vgic_set_attribute(s, n, a[0], a[1], a[2]); }
-static int64_t save(uint32_t *s, size_t n, const uint64_t *a) { (void)a; return vgic_save(s, n, lent, lent_length); }
+static int64_t save(uint32_t *s, size_t n, const uint64_t *a) { int64_t result; (void)a; vgic_save(s, n, lent, lent_length, &result); return result; }
 static int64_t restore(uint32_t *s, size_t n, const uint64_t *a) { (void)a; return vgic_restore(s, n, lent, lent_length); }
 
 static const struct Word {

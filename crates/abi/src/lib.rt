@@ -144,12 +144,12 @@ pub extern "C" fn vgic_set_attribute(
 
 // ---- the record
 
-// Fills the front of a buffer with the record, whose length is the answer; the rest keeps its bytes, and a refusal changes none.
+// Leaves the record at the front of a buffer, and its length or the refusal in `result`; the rest of the buffer keeps its bytes, and a refusal changes none.
 #[no_mangle]
-pub extern "C" fn vgic_save(state: &[u32], buf: &mut [u8]) -> i64
-    ensures { λ r. ⌜ Does (call (save (now (buf .entry))) (now (state .entry))) r (now (state .entry)) (now (buf .exit)) ⌝ }
+pub extern "C" fn vgic_save(state: &[u32], buf: &mut [u8], result: &mut i64)
+    ensures { λ _. ⌜ Does (call (save (now (buf .entry))) (now (state .entry))) (now (result .exit)) (now (state .entry)) (now (buf .exit)) ⌝ }
 {
-    vgic::fill(state, buf)
+    *result = vgic::fill(state, buf);
 }
 
 // Restores the device of a record into a fresh one of the same count and affinities.
