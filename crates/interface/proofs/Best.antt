@@ -15,7 +15,6 @@ use Rattle.model.specs.Layout.{word, count, affinity, bank, routeAt}
 use Rattle.model.specs.Interrupts.{isPrivate, isSpi, group, enabled, active, pending}
 use Rattle.model.specs.Interface.{ownOrRouted, groupOn, candidate, rank, nothing, better, scan, best}
 use Rattle.model.proofs.Bits.{gather-lt, bit-gather}
-use Rattle.model.proofs.Refused.{told-no, told-yes}
 use Rattle.model.proofs.Best.{scan-add, scan-kept}
 use Rattle.words.specs.Words.{byteOf, rest}
 use Rattle.words.proofs.Over.{over, lower-rest, over-none, over-next, over-stops, trailing-lt}
@@ -56,18 +55,23 @@ module _ (s : List ℕ) (v : ℕ) where
   unfolding rank
   rank-read id at r e q = rw (q, e)
 
+  -- no better, whoever takes it
+  pub no-lower-rank : (id b r : ℕ) → r ≡ rank s v id → b ≤ r → b ≡ routed s v id b
+  unfolding routed
+  no-lower-rank id b r q l = go (ownOrRouted s v id)
+    where
+      go : (t : Bool) → b ≡ cond t (min (rank s v id) b) b
+      go true = omega arith
+      go false = refl
+
   module _ (id b : ℕ) (t : Bool) (e : t ≡ ownOrRouted s v id) where
-    pub not-here : not t ≡ true → b ≡ routed s v id b
+    pub not-here : t ≡ false → b ≡ routed s v id b
     unfolding routed
-    not-here h = rw (told-no (ownOrRouted s v id) t e h)
+    not-here h = rw (← e, h)
 
-    pub lower-rank : (r : ℕ) → not t ≡ false → r ≡ rank s v id → r < b → r ≡ routed s v id b
+    pub lower-rank : (r : ℕ) → t ≡ true → r ≡ rank s v id → r < b → r ≡ routed s v id b
     unfolding routed
-    lower-rank r h q l = rw (told-yes (ownOrRouted s v id) t e h) (omega arith)
-
-    pub no-lower-rank : (r : ℕ) → not t ≡ false → r ≡ rank s v id → b ≤ r → b ≡ routed s v id b
-    unfolding routed
-    no-lower-rank r h q l = rw (told-yes (ownOrRouted s v id) t e h) (omega arith)
+    lower-rank r h q l = rw (← e, h) (omega arith)
 
   -- what the search does at bit i of word w
   abbrev pub step : ℕ → ℕ → ℕ → ℕ

@@ -84,16 +84,16 @@ fn rank_of(s: &[u32], v: VcpuIndex, id: usize) -> u32
     byte_of(word, (id % 4) as u32) * IDS + id as u32
 }
 
-// The better of `best` and the ready interrupt `id`, where vCPU `v` is the one to take it.
+// The better of `best` and the ready interrupt `id`, where vCPU `v` is the one to take it. Its rank is looked at first: most are no better, whoever takes them.
 fn better(s: &[u32], v: VcpuIndex, id: usize, best: u32) -> u32
     requires { ⌜ (length (now s) ≡ stateLength) × (v .0 < mostVcpus) × (id < 1024) ⌝ }
     ensures { λ r. ⌜ r ≡ routed (now (s .entry)) (v .0) id best ⌝ }
 {
-    if !own_or_routed(s, v, id) {
+    let found = rank_of(s, v, id);
+    if found >= best {
         return best;
     }
-    let found = rank_of(s, v, id);
-    if found < best { found } else { best }
+    if own_or_routed(s, v, id) { found } else { best }
 }
 
 // The best candidate at vCPU `v` as its rank, or NOTHING: over the words, and in a word over the ready interrupts from the lowest.

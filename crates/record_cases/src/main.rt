@@ -120,9 +120,7 @@ fn save(name: &[u8], s: &[u32; 1760]) {
 }
 
 fn saves() {
-    say(
-        b"save into 0, 75, 76 and 80 bytes of a5; of 75, 80 and 9000 the front part handed back\n",
-    );
+    say(b"save into 0, 75, 76 and 80 bytes of a5; of 75, 80 and 9000 the front part handed back\n");
     let mut s = added(64);
     save(b"not initialised", &s);
     initialise(&mut s);

@@ -7,4 +7,4 @@ use Rattle.interface.proofs.search.better.Tie as tie
 pub better-spec : {M : Type 1} → statement M
 better-spec =
     tie.close
-    (tie.spec (λ c κs. search needs) (λ c. search not-here) (λ c κs. search needs) (λ c. search lower-rank) (λ c. search no-lower-rank))
+    (tie.spec (λ c κs. search needs) (λ c. search no-lower-rank) (λ c κs. search needs) (λ c. search lower-rank) (λ c. search not-here))
