@@ -1,4 +1,5 @@
 -- The definitions of document 01, in its order.
+pub mod Values
 pub mod Words
 pub mod Layout
 pub mod Interrupts

@@ -1,5 +1,6 @@
-// The types that the definitions of specs/ and the code share, and the places of the state. There is nothing to run.
+// The types that the definitions of specs/ and the code share, the places of the state, and the numbers. There is nothing to run.
 pub mod layout;
+pub mod values;
 
 // The table of refusals.
 pub enum Errno {
