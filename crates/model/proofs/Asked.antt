@@ -1,19 +1,19 @@
 -- Gets of listed attributes as calls: a get answers what the word shows, a put takes that value, and what an answered get tells of its number.
-use Prim.Native.Nat.{ℕ, zero, suc, _+_, _*_, _/_, _%_, _^_, _≤_, _<_}
+use Prim.Native.Nat.{ℕ, zero, suc, _+_, _-_, _*_, _/_, _%_, _^_, _≤_, _<_}
 use mathlib.Core.Path.{_≡_, refl, sym, ap, _∙_}
 use mathlib.Core.Bool.{Bool, true, false, true≢false, false≢true}
 use mathlib.Core.List.{List}
 use mathlib.Core.Logic.{⊎-elim}
 use native.Mathlib.Omega.{arith}
-use borrow.Author.Tests.{eq-eqb, lt-ltb, le-ltb}
+use borrow.Author.Tests.{eq-eqb, lt-ltb, le-ltb, le-leb}
 use lib.Dec.{eqb, ltb}
 use lib.IntN.{pos, negℤ}
 use Rattle.model.specs.Words.{lowest}
-use Rattle.model.specs.Layout.{word, vcpus, block, affinity}
+use Rattle.model.specs.Layout.{word, vcpus, block, affinity, ctlrField, ctlrAt}
 use Rattle.model.specs.declared.Refusal.the-variants.{None}
 use Rattle.model.specs.Interface.{plainTakes}
 use Rattle.model.specs.Attributes.{Attribute, low, high, groupOf, indexOf, numberOk, affinityKnown, item, itemIn, itemOf, known, registerTakes, takes, itemRead}
-use Rattle.model.specs.Calls.{Call, getAttribute, call, lentTo, acceptable, registerChecks, getChecks, checks, refusal, getValue, value}
+use Rattle.model.specs.Calls.{Call, getAttribute, call, registerChecks, getChecks, refusal, getValue, value, describe}
 use Rattle.model.specs.Record.{ofVcpu}
 use Rattle.model.specs.Demands.{Stopped, Alike}
 use Rattle.model.specs.declared.RegisterGroup.{RegisterGroup}
@@ -27,6 +27,7 @@ use Rattle.model.proofs.Places.{small-encoding, placeOf, shown, shapeOf
 use Rattle.model.proofs.Cover.{shows}
 use Rattle.model.proofs.Puts.{ctlr-word}
 use Rattle.model.proofs.Masks.{block-word}
+use Rattle.model.specs.Values.{iccCtlrFixed}
 
 -- ---- the group of a listed attribute
 
@@ -113,7 +114,10 @@ module _ (s : List ℕ) (h : Ready s) where
   value-taken (vcpu-lines v l) = and-true (below (vcpu-lines v l)) refl
   value-taken (vcpu-priority v j l m) = and-true (below (vcpu-priority v j l m)) refl
   value-taken (vcpu-system v pmr l) = refl
-  value-taken (vcpu-system v ctlr l) = ctlr-word (word s (block v + 20)) (block-word s h v 20 l (omega arith)) .1
+  value-taken (vcpu-system v ctlr l) =
+      let w = word s (ctlrAt v) in
+      let e : iccCtlrFixed + w - iccCtlrFixed ≡ w = omega arith in
+      and-true (le-leb iccCtlrFixed (iccCtlrFixed + w) (omega arith)) (rw e (block-word s h v ctlrField l (omega arith)))
   value-taken (vcpu-system v bpr0 l) = refl
   value-taken (vcpu-system v bpr1 l) = refl
   value-taken (vcpu-system v ap0r l) = refl
@@ -186,7 +190,7 @@ item-of a s q e = rw e
 -- ---- a get of a listed attribute answers what the word shows
 
 pub get-answers : (s : List ℕ) → Stopped s → {a : Attribute} → Listed s a → call (getAttribute (a .group) (a .number)) s .answer ≡ pos (itemRead s (itemOf a s))
-unfolding lentTo acceptable checks getChecks registerChecks value getValue
+unfolding describe getChecks registerChecks getValue
 get-answers s hs {a} l = is-granted c s grants .answer ∙ ap pos (rw (e, ← i))
   where
     c : Call
@@ -215,7 +219,7 @@ pub record Answered (f : List ℕ) (q : RegisterGroup) (n v : ℕ) : Type 0 wher
   pub reads : itemRead f (item q n f) ≡ v
 
 pub get-answered : (f : List ℕ) (g n v : ℕ) (q : RegisterGroup) → groupOf g ≡ Registers q → call (getAttribute g n) f .answer ≡ pos v → Answered f q n v
-unfolding lentTo acceptable checks getChecks registerChecks value getValue
+unfolding describe getChecks registerChecks getValue
 get-answered f g n v q e a = ⊎-elim told (λ r. absurd (sign _ (errno-positive (r .0)) (sym (r .1 .answer) ∙ a))) (every-call (getAttribute g n) f)
   where
     sign : (m : ℕ) → 0 < m → negℤ (pos m) ≡ pos v → ⊥

@@ -1,6 +1,7 @@
 -- The places of the listed attributes cover every word that may differ between two sound, stopped devices of equal set-up: the listed values decide the state.
 use Prim.Native.Nat.{ℕ, zero, suc, _+_, _*_, _-_, _/_, _%_, _^_, _≤_, _<_}
 use mathlib.Core.Path.{_≡_, refl, sym, ap, _∙_, subst}
+use mathlib.Core.Bool.{false}
 use mathlib.Core.List.{List, List·Memᴰ}
 use mathlib.Core.Logic.{_⊎_, inl, inr, ⊎-elim}
 use native.Mathlib.Decide.{ℕ-discrete, decLt}
@@ -8,9 +9,8 @@ use native.Mathlib.Omega.{arith}
 use borrow.Author.Tests.{lt-ltb, le-ltb}
 use lib.Dec.{ltb}
 use lib.ListN.{getD, List·getD-eq-default}
-use lib.Seq.{ext-getD}
 use Rattle.model.specs.Words.{spread}
-use Rattle.model.specs.Layout.{stateLength, word, count, vcpus, block, running}
+use Rattle.model.specs.Layout.{stateLength, word, count, vcpus, block, running, routeAt}
 use Rattle.model.specs.Sound.{usedBits, entry, headerBits, blockBits, bankBits, lastBankBits}
 use Rattle.model.specs.Attributes.{Attribute, attr, itemOf, itemRead}
 use Rattle.model.specs.Record.{listed, ofVcpu}
@@ -22,6 +22,10 @@ use Rattle.model.proofs.Bits.{gather-lt}
 use Rattle.model.proofs.Masks.{entry-there, entry-absent, header-bits, block-bits, bank-bits, last-bits, route-none, SpiWord, header-word, block-word, bank-is}
 use Rattle.model.proofs.Listed.{Kept, groups, enables, latches, actives, offsetOf, Stored, pmr, ctlr, ap0r, ap1r, igrpen0, igrpen1, encodingOf, Listed, control, status, spi-flags, spi-lines, spi-priority, spi-config, spi-route, vcpu-status, vcpu-flags, vcpu-lines, vcpu-priority, vcpu-system, member, bpr0, bpr1}
 use Rattle.model.proofs.Places.{fieldOf, storedAt, field-small, stored-small, placeOf, Shape, itself, shown, shapeOf, roomOf, shown-once, namedBy, reads-place, edges}
+use Rattle.model.proofs.Roles.{header-role, listed-bank, listed-block, listed-route}
+use Rattle.model.proofs.Derived.{core-decides}
+use Rattle.model.specs.Roles.{roleIn, roleOf, isDerived}
+use Rattle.model.specs.Roles as role
 
 -- ---- a word is a listed attribute's, or alike in both devices
 
@@ -164,8 +168,9 @@ module _ (s t : List ℕ) (hs : Ready s) (ht : Ready t) (same : Alike s t) (rest
       go (yes a) (no b) = zero-word p (omega arith) (route-none (count s) (vcpus s) p l (λ z. omega arith))
       go (no a) b = zero-word p (omega arith) (route-none (count s) (vcpus s) p l (λ z. absurd (omega arith)))
 
-  pub each-owned : (p : ℕ) → p < 1760 → Owned s t p
-  each-owned p l = go (decLt p 16) (decLt p 272) (decLt p 768) (decLt ((p - 16) / 32) (vcpus s))
+  -- of every word that is not derived
+  pub each-owned : (p : ℕ) → p < 1760 → isDerived (roleOf p) ≡ false → Owned s t p
+  each-owned p l core = go (decLt p 16) (decLt p 272) (decLt p 768) (decLt ((p - 16) / 32) (vcpus s))
     where
       go : Dec (p < 16) → Dec (p < 272) → Dec (p < 768) → Dec ((p - 16) / 32 < vcpus s) → Owned s t p
       go (yes a) d2 d3 d4 = in-header p a
@@ -185,6 +190,26 @@ pub record Shows (s : List ℕ) (k : Shape) (p : ℕ) : Type 0 where
   pub small : shown k (word s p) < 2 ^ 32
 
 module _ (s : List ℕ) (h : Ready s) where
+  -- a listed attribute's word has that role
+  pub place-listed : {a : Attribute} (l : Listed s a) → roleOf (placeOf l) ≡ role.listed
+  place-listed control = header-role 3 (omega arith) ∙ unfold roleIn in refl
+  place-listed status = header-role 4 (omega arith) ∙ unfold roleIn in refl
+  place-listed (spi-flags w k q) = listed-bank w (fieldOf k) (q .low) (omega (arith, q .high, h .counted .most)) (omega (arith, field-small k))
+  place-listed (spi-lines w q) = listed-bank w 4 (q .low) (omega (arith, q .high, h .counted .most)) (omega arith)
+  place-listed (spi-priority w j q l) = listed-bank w (5 + j) (q .low) (omega (arith, q .high, h .counted .most)) (omega arith)
+  place-listed (spi-config w j q l) = listed-bank w (13 + j) (q .low) (omega (arith, q .high, h .counted .most)) (omega arith)
+  place-listed (spi-route id l m) = listed-route (routeAt id) (omega arith) (omega arith)
+  place-listed (vcpu-status v l) = listed-block v 18 (omega (arith, h .few)) (inr (omega arith))
+  place-listed (vcpu-flags v k l) = listed-block v (fieldOf k) (omega (arith, h .few)) (inl (omega (arith, field-small k)))
+  place-listed (vcpu-lines v l) = listed-block v 4 (omega (arith, h .few)) (inl (omega arith))
+  place-listed (vcpu-priority v j l m) = listed-block v (5 + j) (omega (arith, h .few)) (inl (omega arith))
+  place-listed (vcpu-system v p l) = listed-block v (storedAt p) (omega (arith, h .few)) (inr (omega (arith, stored-small p)))
+
+  -- so it is not derived
+  pub place-core : {a : Attribute} (l : Listed s a) → isDerived (roleOf (placeOf l)) ≡ false
+  unfolding isDerived
+  place-core l = ap isDerived (place-listed l)
+
   -- a place lies in the state
   pub place-inside : {a : Attribute} (l : Listed s a) → placeOf l < stateLength
   place-inside control = omega arith
@@ -280,7 +305,7 @@ pub listed-decide : (s t : List ℕ) → Stopped s → Stopped t → Alike s t
     → ((a : Attribute) → List·Memᴰ a (listed s) → itemRead t (itemOf a t) ≡ itemRead s (itemOf a s)) → t ≡ s
 unfolding Owned
 listed-decide s t hs ht same reads =
-    ext-getD 0 t s (rt .size ∙ sym (rs .size)) (λ p l. word-at p (omega (arith, rt .size)))
+    core-decides s t (hs .is-sound) (ht .is-sound) word-at
   where
     rs : Ready s
     rs = stopped-ready s hs
@@ -291,6 +316,6 @@ listed-decide s t hs ht same reads =
     idle : (v : ℕ) → v < vcpus s → running t v ≡ running s v
     idle v l = stopped-running t (ht .is-stopped) v (rw (same .same-number) l) ∙ sym (stopped-running s (hs .is-stopped) v l)
 
-    word-at : (p : ℕ) → p < 1760 → word t p ≡ word s p
-    word-at p l =
-        ⊎-elim (λ o. rw (o .2) at (same-word s t same rs rt (o .1) (reads (o .0) (member s rs (o .1))))) (λ e. e) (each-owned s t rs rt same idle p l)
+    word-at : (p : ℕ) → p < 1760 → isDerived (roleOf p) ≡ false → word t p ≡ word s p
+    word-at p l core =
+        ⊎-elim (λ o. rw (o .2) at (same-word s t same rs rt (o .1) (reads (o .0) (member s rs (o .1))))) (λ e. e) (each-owned s t rs rt same idle p l core)

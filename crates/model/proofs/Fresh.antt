@@ -1,4 +1,4 @@
--- A device that was just made is sound; initialising a sound device with a vCPU leaves one that is fresh and sound.
+-- The core of a device that was just made is sound; initialising a sound device with a vCPU leaves one that is fresh, with a sound core.
 use Prim.Native.Nat.{ℕ, _+_, _-_, _/_, _%_, _^_, _≤_, _<_}
 use mathlib.Core.Path.{_≡_, refl, _∙_}
 use mathlib.Core.Bool.{Bool, true, false, cond}
@@ -11,16 +11,15 @@ use lib.ListN.{length, getD, set, length-set}
 use lib.Seq.{getD-set-same, getD-set-other}
 use Rattle.model.specs.Words.{bit, within, every, allBelow}
 use Rattle.model.specs.Layout.{stateLength, word, initialised, count, vcpus, block}
-use Rattle.model.specs.Sound.{headerBits, blockBits, freshHeaderBits, freshBlockBits, entry, usedBits, freshBits, allowedBits, fits, wordOk, isCount, setup, vcpuOk, sound, fresh}
+use Rattle.model.specs.Sound.{headerBits, blockBits, freshHeaderBits, freshBlockBits, entry, usedBits, freshBits, allowedBits, fits, wordOk, isCount, setup, vcpuOk, core, sound, fresh}
 use Rattle.model.specs.Calls.{made, initialisedNext}
 use Rattle.model.proofs.Tests.{both, and-true, or-right, every-at, every-all, below-at, below-all}
 use Rattle.model.proofs.Within.{fits-none, bits-fit, zero-fits, wider}
-use Rattle.model.proofs.Soundness.{Sound, open-sound, close-sound, setup-vcpus, setup-counted, is-count, word-fresh, word-used, vcpu-kept}
+use Rattle.model.proofs.Soundness.{Sound, open-core, open-sound, setup-vcpus, setup-counted, is-count, word-fresh, word-used, vcpu-kept}
 
 -- just made: all zero
-pub made-sound : sound made ≡ true
-unfolding sound made setup isCount every wordOk allowedBits freshBits entry fits allBelow
-made-sound = refl
+pub made-sound : Sound made
+made-sound = open-core made (unfold core made setup isCount every wordOk allowedBits freshBits entry fits allBelow in refl)
 
 -- ---- a fresh device is sound
 
@@ -49,17 +48,17 @@ fresh-wider c n k w e = go (decLt k 16) (decLt k 272) (decLt ((k - 16) / 32) n)
     go (no a) (yes b) (no q) = none (usedBits c n k) (fits-none w (rw (le-ltb k 16 (omega arith), lt-ltb k 272 b, le-ltb ((k - 16) / 32) n (omega arith)) at e))
     go (no a) (no b) d3 = none (usedBits c n k) (fits-none w (rw (le-ltb k 16 (omega arith), le-ltb k 272 (omega arith)) at e))
 
-pub fresh-sound : (s : List ℕ) → length s ≡ stateLength → setup (initialised s) (count s) (vcpus s) ≡ true → allBelow (vcpuOk s) (vcpus s) ≡ true → fresh s ≡ true → sound s ≡ true
+pub fresh-sound : (s : List ℕ) → length s ≡ stateLength → setup (initialised s) (count s) (vcpus s) ≡ true → allBelow (vcpuOk s) (vcpus s) ≡ true → fresh s ≡ true → Sound s
 unfolding fresh
 fresh-sound s size ok each e =
     let a = both (eqb (initialised s) 1) (every (λ k w. fits w (freshBits (vcpus s) k)) 0 s) e in
     let i : initialised s ≡ 1 = eqb-true (initialised s) 1 (a .0) in
-    close-sound s (record {
+    record {
       size = size;
       set-up = ok;
       each-vcpu = below-at (vcpuOk s) (vcpus s) each;
       each-word = λ k l. rw (word-used s i k (word s k)) (fresh-wider (count s) (vcpus s) k (word s k) (every-at (λ j w. fits w (freshBits (vcpus s) j)) s (a .1) k (omega arith)));
-    })
+    }
 
 -- every word of 32 bits fits the mask of all ones
 pub all-ones : (w : ℕ) → w < 2 ^ 32 → fits w 0xffffffff ≡ true
@@ -110,13 +109,13 @@ module _ (s : List ℕ) (h : Sound s) (start : initialised s ≡ 0) (some : 1 �
       go (no a) (yes e) = rw (e, counted) (unfold freshBits entry in (all-ones c (omega (arith, is-count c is-valid .most))))
       go (no a) (no b) = rw (later k (omega arith), ← word-fresh s start k (word s k)) (h .each-word k l)
 
-  pub initialised-fresh : (fresh t ≡ true) × (sound t ≡ true)
+  pub initialised-fresh : (fresh t ≡ true) × Sound t
   unfolding fresh
   initialised-fresh =
       let f : fresh t ≡ true = and-true (eq-eqb (word t 0) 1 mark) (every-all (λ k w. fits w (freshBits (vcpus t) k)) t (λ k l. fresh-word k (omega (arith, long)))) in
       (f, fresh-sound t long ready-set-up (below-all (vcpuOk t) (vcpus t) each-vcpu) f)
 
 -- what initialise leaves of a sound device with a vCPU that was not initialised
-pub initialise-leaves-fresh : (s : List ℕ) → sound s ≡ true → initialised s ≡ 0 → 1 ≤ vcpus s → (fresh (initialisedNext s) ≡ true) × (sound (initialisedNext s) ≡ true)
+pub initialise-leaves-fresh : (s : List ℕ) → sound s ≡ true → initialised s ≡ 0 → 1 ≤ vcpus s → (fresh (initialisedNext s) ≡ true) × Sound (initialisedNext s)
 unfolding initialisedNext
 initialise-leaves-fresh s e i n = rw i (initialised-fresh s (open-sound s e) i n)

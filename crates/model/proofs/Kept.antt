@@ -10,13 +10,15 @@ use borrow.Author.Tests.{eqb-false, eq-eqb, ltb-true, lt-ltb, le-leb}
 use lib.Dec.{eqb, ltb}
 use lib.ListN.{length, getD, set, length-set}
 use lib.Seq.{getD-set-same, getD-set-other}
+use Rattle.model.specs.Values.{edgeBits}
 use Rattle.model.specs.Words.{val, within}
-use Rattle.model.specs.Layout.{stateLength, word, initialised, isInitialised, count, countAt, vcpus, vcpusAt, block, affinity, affinityAt, bprAt, sgiEdgesAt, runningAt}
+use Rattle.model.specs.Layout.{stateLength, word, initialised, isInitialised, count, countAt, vcpus, vcpusAt, block, affinity, affinityField, affinityAt, bprField, bprAt, leastBpr, edgeField, sgiEdgesAt, runningField, runningAt}
 use Rattle.model.specs.Sound.{entry, freshBits, freshHeaderBits, freshBlockBits, fits, isCount, setup, isAffinity, unused, vcpuOk, sound}
-use Rattle.model.specs.Calls.{Call, make, Lent, anyState, aDevice, aBuffer, aRecord, lentTo, acceptable, checks, vcpuAdded, initialisedNext, next, call}
+use Rattle.model.specs.Calls.{Call, make, addVcpu, setRunning, changeLine, querySignal, readDistributor, writeDistributor, readFrame, writeFrame, readSystem, writeSystem, getAttribute, setAttribute, save, restore, describe, acceptable, checks, made, vcpuAdded, initialisedNext, nextCore, call}
 use Rattle.model.proofs.Tests.{or-right, below-at}
 use Rattle.model.proofs.Within.{zero-fits, fits-none}
-use Rattle.model.proofs.Soundness.{Sound, open-sound, close-sound, sound-length, is-count, setup-mark, setup-vcpus, setup-counted, word-fresh, word-used, ready, close-vcpu, vcpu-kept}
+use Rattle.model.proofs.Soundness.{Sound, open-sound, sound-length, is-count, setup-mark, setup-vcpus, setup-counted, word-fresh, word-used, core-ready, close-vcpu, vcpu-kept}
+use Rattle.model.proofs.Derived.{with-sound}
 use Rattle.model.proofs.Affinities.{affinity-fits}
 use Rattle.model.proofs.Fresh.{made-sound, all-ones, initialise-leaves-fresh}
 use Rattle.model.proofs.Refused.{Passed, passed, tests-next, IsGranted, every-call}
@@ -101,10 +103,10 @@ module _ (s : List ℕ) (a : ℕ) (h : Sound s) (m : MayAdd s a) where
 
   -- P holds of what is stored at place k, or of what stood there
   record Held (P : ℕ → Type 0) (k : ℕ) : Type 0 where
-    edges : k ≡ sgiEdgesAt n → P 0xffff
+    edges : k ≡ sgiEdgesAt n → P edgeBits
     given : k ≡ affinityAt n → P a
-    bpr0 : k ≡ bprAt n 0 → P 2
-    bpr1 : k ≡ bprAt n 1 → P 3
+    bpr0 : k ≡ bprAt n 0 → P (leastBpr 0)
+    bpr1 : k ≡ bprAt n 1 → P (leastBpr 1)
     number : k ≡ vcpusAt → P (n + 1)
     old : Elsewhere k → P (word s k)
 
@@ -149,7 +151,7 @@ module _ (s : List ℕ) (a : ℕ) (h : Sound s) (m : MayAdd s a) where
     edges = holds (λ x. x ≡ 0xffff) (sgiEdgesAt n) (omega arith);
     bpr0 = holds (λ x. 2 ≤ x) (bprAt n 0) (omega arith);
     bpr1 = holds (λ x. 3 ≤ x) (bprAt n 1) (omega arith);
-    distinct = λ u l. rw (kept-word u 16 l (omega arith), new-affinity) (below-at (λ v. not (eqb (affinity s v) a)) n (m .new) u l);
+    distinct = λ u l. rw (kept-word u affinityField l (omega arith), new-affinity) (below-at (λ v. not (eqb (affinity s v) a)) n (m .new) u l);
   })
 
   -- the bits that the words of the new block may have
@@ -158,10 +160,10 @@ module _ (s : List ℕ) (a : ℕ) (h : Sound s) (m : MayAdd s a) where
 
   each-word : (k : ℕ) → k < stateLength → fits (word t k) (freshBits (n + 1) k) ≡ true
   each-word k l = holds (λ w. fits w (freshBits (n + 1) k) ≡ true) k (record {
-    edges = λ e. rw (new-bits 13 k (omega arith) e) (unfold fits within in refl);
-    given = λ e. rw (new-bits 16 k (omega arith) e) (sym (affinity-fits a) ∙ m .valid);
-    bpr0 = λ e. rw (new-bits 21 k (omega arith) e) (unfold fits within in refl);
-    bpr1 = λ e. rw (new-bits 22 k (omega arith) e) (unfold fits within in refl);
+    edges = λ e. rw (new-bits edgeField k (omega arith) e) (unfold fits within in refl);
+    given = λ e. rw (new-bits affinityField k (omega arith) e) (sym (affinity-fits a) ∙ m .valid);
+    bpr0 = λ e. rw (new-bits (bprField 0) k (omega arith) e) (unfold fits within in refl);
+    bpr1 = λ e. rw (new-bits (bprField 1) k (omega arith) e) (unfold fits within in refl);
     number = λ e. rw e (unfold freshBits entry in (all-ones (n + 1) (omega (arith, m .room))));
     old = λ e. fresh-more n k (word s k) (rw (word-fresh s (m .start) k (word s k)) at (h .each-word k l));
   })
@@ -187,34 +189,45 @@ running-fits false = refl
 
 pub running-sound : (s : List ℕ) (v : ℕ) (on : Bool) → Sound s → initialised s ≡ 1 → v < vcpus s → Sound (set s (runningAt v) (val on))
 running-sound s v on h i l =
-    let r = ready s (close-sound s h) i in
-    store-sound s (runningAt v) (val on)
-    (block-store s (r .few) v 17 (val on) l (omega arith) (rw (word-used s i (runningAt v) (val on), block-is s r v 17 l (omega arith)) (running-fits on))) h
+    let r = core-ready s h i in
+    store-sound s (runningAt v) (val on) (r .few)
+    (block-store s (r .few) v runningField (val on) l (omega arith) (rw (word-used s i (runningAt v) (val on), block-is s r v runningField l (omega arith)) (running-fits on))) h
 
 -- ---- the calls
 
 -- a sound state is lent as every call asks
-sound-lent : (l : Lent) (s : List ℕ) → sound s ≡ true → acceptable l s ≡ true
-unfolding acceptable
-sound-lent anyState s h = eq-eqb (length s) stateLength (sound-length s h)
-sound-lent aDevice s h = h
-sound-lent (aBuffer buf) s h = h
-sound-lent (aRecord bytes) s h = h
+sound-lent : (c : Call) (s : List ℕ) → sound s ≡ true → acceptable c s ≡ true
+unfolding describe
+sound-lent make s h = eq-eqb (length s) stateLength (sound-length s h)
+sound-lent (addVcpu a) s h = h
+sound-lent (setRunning v on) s h = h
+sound-lent (changeLine v id level) s h = h
+sound-lent (querySignal v) s h = h
+sound-lent (readDistributor v off size) s h = h
+sound-lent (writeDistributor v off size x) s h = h
+sound-lent (readFrame v f off size) s h = h
+sound-lent (writeFrame v f off size x) s h = h
+sound-lent (readSystem v e) s h = h
+sound-lent (writeSystem v e x) s h = h
+sound-lent (getAttribute g a) s h = h
+sound-lent (setAttribute g a x) s h = h
+sound-lent (save buf) s h = h
+sound-lent (restore bytes) s h = h
 
--- a call keeps a state sound if what it leaves is sound where its tests pass
-pub kept : (c : Call) (s : List ℕ) → sound s ≡ true → (Passed (checks c s) → sound (next c s) ≡ true) → sound (call c s .state) ≡ true
+-- a call keeps a state sound if the core of what it leaves is sound where its tests pass
+pub kept : (c : Call) (s : List ℕ) → sound s ≡ true → (Passed (checks c s) → Sound (nextCore c s)) → sound (call c s .state) ≡ true
 kept c s h leaves =
-    ⊎-elim (λ g. rw (g .state) (leaves (passed (checks c s) (sym (tests-next c s (sound-lent (lentTo c) s h)) ∙ g .grants))))
+    ⊎-elim (λ g. rw (g .state) (with-sound _ (leaves (passed (checks c s) (sym (tests-next c s (sound-lent c s h)) ∙ g .grants)))))
     (λ r. rw (r .1 .state) h) (every-call c s)
 
 -- what making leaves is sound, whatever stood there
 pub make-sound : (s : List ℕ) → IsGranted make s → sound (call make s .state) ≡ true
-unfolding next
-make-sound s g = rw (g .state) made-sound
+unfolding describe
+make-sound s g = rw (g .state) (with-sound made made-sound)
 
-pub initialise-sound : (s : List ℕ) → sound s ≡ true → (isInitialised s || ltb 0 (vcpus s)) ≡ true → sound (initialisedNext s) ≡ true
+pub initialise-sound : (s : List ℕ) → sound s ≡ true → (isInitialised s || ltb 0 (vcpus s)) ≡ true → Sound (initialisedNext s)
 initialise-sound s h p = go (isInitialised s) refl
   where
-    go : (b : Bool) → isInitialised s ≡ b → sound (initialisedNext s) ≡ true
-    go true e = unfold initialisedNext in (rw e h)
+    go : (b : Bool) → isInitialised s ≡ b → Sound (initialisedNext s)
+    go true e = unfold initialisedNext in (rw e (open-sound s h))
     go false e = initialise-leaves-fresh s h (not-marked s (open-sound s h) e) (ltb-true 0 (vcpus s) (rw e at p)) .1

@@ -11,7 +11,7 @@ use Rattle.model.specs.Words.{bit}
 use Rattle.model.specs.Layout.{word, isInitialised, pmrAt, aprAt, running}
 use Rattle.model.specs.Interface.{system, readGroup, groupIn, best, nothing, found, rankPriority, groupPriority, runningLevel, ofGroup, gives, offered, levelOf, levelClear, systemReadClear}
 use Rattle.model.specs.Refusals.{Check, firstFailing, errno}
-use Rattle.model.specs.Calls.{readSystem, lentTo, acceptable, guestChecks, readChecks, checks, isVcpu, refusal, call}
+use Rattle.model.specs.Calls.{readSystem, lentTo, acceptable, guestChecks, readChecks, checks, isVcpu, refusal, call, describe, inPhase, readPhase}
 use Rattle.model.specs.declared.Refusal.{Refusal}
 use Rattle.model.specs.declared.Refusal.the-variants.{None, Refuse}
 use Rattle.model.specs.declared.Errno.{Errno}
@@ -99,14 +99,14 @@ read-other s v (Write w) h = other-refuse 5 Enxio (omega arith)
 read-other s v Unnamed h = other-refuse 5 Enxio (omega arith)
 
 checks-other : (v e : ℕ) (s : List ℕ) → Other 5 (firstFailing (checks (readSystem v e) s))
-unfolding checks guestChecks errno
+unfolding describe guestChecks errno
 checks-other v e s =
-    other-next 5 (isInitialised s) Ebusy _ (omega arith)
+    other-next 5 (inPhase (readPhase (system e)) s) Ebusy _ (omega arith)
     (other-next 5 (isVcpu s v) Einval _ (omega arith) (other-next 5 (eqb (running s v) 1) Eperm _ (omega arith) (read-other s v (system e) (system-group e))))
 
 refusal-other : (v e : ℕ) (s : List ℕ) → Other 5 (refusal (readSystem v e) s)
 unfolding refusal errno
-refusal-other v e s = step (acceptable (lentTo (readSystem v e)) s)
+refusal-other v e s = step (acceptable (readSystem v e) s)
   where
     step : (t : Bool) → Other 5 (elim t [ true ↦ firstFailing (checks (readSystem v e) s) | false ↦ Refuse Efault ])
     step true = checks-other v e s

@@ -3,6 +3,8 @@ pub mod Tests
 pub mod Bits
 pub mod Within
 pub mod Soundness
+pub mod Roles
+pub mod Derived
 pub mod Affinities
 pub mod Fresh
 pub mod Refused

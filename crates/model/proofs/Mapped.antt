@@ -20,9 +20,9 @@ use Rattle.model.specs.declared.Decoded.the-variants.{Listed, Unlisted}
 use Rattle.model.specs.declared.RegisterGroup.the-variants.{Lines}
 use Rattle.model.specs.declared.Item.the-variants as items
 use Rattle.model.proofs.Tests.{both}
-use Rattle.model.proofs.Soundness.{Sound, Ready}
+use Rattle.model.proofs.Soundness.{Sound, Ready, ready-is-sound}
 use Rattle.model.proofs.Decode.{decode-words}
-use Rattle.model.proofs.Writes.{ready-is-sound, bits-sound, priority-sound, write-sound}
+use Rattle.model.proofs.Writes.{bits-sound, priority-sound, write-sound}
 
 module _ (s : List ℕ) (h : Ready s) where
   -- ---- a guest's write

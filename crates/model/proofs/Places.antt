@@ -10,7 +10,7 @@ use borrow.Author.Tests.{eq-eqb, ne-eqb, lt-ltb, le-ltb, not-true}
 use lib.Dec.{eqb, ltb}
 use lib.ListN.{getD}
 use Rattle.model.specs.Words.{bit, lowest, spread}
-use Rattle.model.specs.Layout.{word, vcpus, block, bank, affinity, routeAt}
+use Rattle.model.specs.Layout.{word, vcpus, block, bank, affinity, routeAt, pmrAt, bprAt, aprAt, ctlrAt, igrpenAt}
 use Rattle.model.specs.Registers.{decode, rows, read, flags, shownTo, statusAt, seenBy}
 use Rattle.model.specs.Interface.{system, systemIn, plainRead}
 use Rattle.model.specs.Attributes.{Attribute, attr, low, high, groupOf, indexOf, mappedItem, mapped, systemItem, item, itemIn, itemOf, itemRead}
@@ -34,6 +34,7 @@ use Rattle.model.proofs.Fields.{bank-at}
 use Rattle.model.proofs.Readings.{reads-spi-flags, reads-private-flags, reads-private-lines, reads-spi-priority, reads-private-priority, reads-spi-config, reads-route}
 use Rattle.model.proofs.Listed.{Kept, groups, enables, latches, actives, offsetOf, Stored, pmr, ctlr, ap0r, ap1r, igrpen0, igrpen1, encodingOf, Listed, control, status, spi-flags, spi-lines, spi-priority, spi-config, spi-route, vcpu-status, vcpu-flags, vcpu-lines, vcpu-priority, vcpu-system, bpr0, bpr1}
 use Rattle.model.proofs.Masks.{SpiWord, fits-word}
+use Rattle.model.specs.Values.{iccCtlrFixed, gicdCtlrFixed}
 
 -- ---- the place, and how the word there is shown
 
@@ -59,7 +60,7 @@ field-small enables = omega arith
 field-small latches = omega arith
 field-small actives = omega arith
 
-pub stored-small : (p : Stored) → storedAt p < 27
+pub stored-small : (p : Stored) → (18 ≤ storedAt p) × (storedAt p < 27)
 stored-small pmr = omega arith
 stored-small ctlr = omega arith
 stored-small bpr0 = omega arith
@@ -105,7 +106,7 @@ shown (above c) w = c + w
 
 abbrev pub systemShape : Stored → Shape
 systemShape pmr = itself
-systemShape ctlr = above 0x400
+systemShape ctlr = above iccCtlrFixed
 systemShape bpr0 = itself
 systemShape bpr1 = itself
 systemShape ap0r = itself
@@ -114,7 +115,7 @@ systemShape igrpen0 = itself
 systemShape igrpen1 = itself
 
 abbrev pub shapeOf : {s : List ℕ} {a : Attribute} → Listed s a → Shape
-shapeOf control = above 0x50
+shapeOf control = above gicdCtlrFixed
 shapeOf status = itself
 shapeOf (spi-flags w k q) = itself
 shapeOf (spi-lines w q) = itself
@@ -157,7 +158,7 @@ namedBy (vcpu-status v l) = Mapped (Frame v) Status 0
 namedBy (vcpu-flags v k l) = Mapped (Frame v) (Bits (flagsOf k)) 0
 namedBy (vcpu-lines v l) = Mapped (Frame v) (Bits Lines) 0
 namedBy (vcpu-priority v j l m) = Mapped (Frame v) Priority j
-namedBy (vcpu-system v p l) = System v (plainOf p)
+namedBy (vcpu-system v p l) = System (Frame v) (plainOf p)
 
 -- the index of a vCPU's affinity is its index
 lowest-is : (f : ℕ → Bool) (n i v : ℕ) → i ≤ v → v < i + n → f v ≡ true → ((u : ℕ) → u < v → f u ≡ false) → lowest f n i ≡ v
@@ -196,7 +197,7 @@ module _ (s : List ℕ) (h : Ready s) where
       let z = vcpu-parts v off q l in
       rw (z .0, z .1, index-of v q, m, e)
 
-  in-interface : (v : ℕ) (p : Stored) → v < vcpus s → itemOf (attr 6 (ofVcpu s v (encodingOf p))) s ≡ System v (plainOf p)
+  in-interface : (v : ℕ) (p : Stored) → v < vcpus s → itemOf (attr 6 (ofVcpu s v (encodingOf p))) s ≡ System (Frame v) (plainOf p)
   unfolding itemOf itemIn groupOf item systemItem
   in-interface v p q =
       let z = vcpu-parts v (encodingOf p) q (small-encoding p) in
@@ -263,7 +264,7 @@ module _ (s : List ℕ) (h : Ready s) where
 
   -- and reads the word at its place
   item-reads : {a : Attribute} (l : Listed s a) → itemRead s (namedBy l) ≡ shown (shapeOf l) (word s (placeOf l))
-  unfolding itemRead read flags shownTo statusAt plainRead
+  unfolding itemRead read flags shownTo statusAt plainRead seenBy
   item-reads control = refl
   item-reads status = refl
   item-reads (spi-flags w groups q) = reads-spi-flags s h w 0 0 q (omega arith) (omega arith)
@@ -414,16 +415,16 @@ registerPlace x FrameTyper k = 0
 registerPlace x FrameAffinity k = 0
 
 unfoldable pub plainPlace : ℕ → Plain → ℕ
-plainPlace v Pmr = block v + 19
-plainPlace v (Bpr g) = block v + (21 + g)
-plainPlace v (Apr g) = block v + (23 + g)
-plainPlace v Ctlr = block v + 20
+plainPlace v Pmr = pmrAt v
+plainPlace v (Bpr g) = bprAt v g
+plainPlace v (Apr g) = aprAt v g
+plainPlace v Ctlr = ctlrAt v
 plainPlace v Sre = 0
-plainPlace v (Igrpen g) = block v + (25 + g)
+plainPlace v (Igrpen g) = igrpenAt v g
 
 unfoldable pub itemPlace : Item → ℕ
 itemPlace (Mapped x r k) = registerPlace x r k
-itemPlace (System v p) = plainPlace v p
+itemPlace (System x p) = plainPlace (seenBy x) p
 itemPlace Nameless = 0
 
 module _ (s : List ℕ) (h : Ready s) where

@@ -10,7 +10,7 @@ use borrow.Author.Tests.{eq-eqb, ne-eqb, lt-ltb, le-ltb}
 use lib.Dec.{eqb, ltb}
 use lib.ListN.{length, getD}
 use Rattle.model.specs.Words.{within}
-use Rattle.model.specs.Layout.{stateLength, word, vcpus, block, affinity}
+use Rattle.model.specs.Layout.{stateLength, word, vcpus, block, affinity, edgeField, affinityField, bprField, leastBpr}
 use Rattle.model.specs.Sound.{freshHeaderBits, freshBlockBits, entry, freshBits, fits, vcpuOk, fresh}
 use Rattle.model.specs.Attributes.{Attribute, itemOf, itemRead}
 use Rattle.model.specs.Record.{listed}
@@ -20,9 +20,13 @@ use Rattle.model.proofs.Tests.{and-true, every-all, below-all}
 use Rattle.model.proofs.Within.{zero-fits}
 use Rattle.model.proofs.Soundness.{stopped-ready, open-sound, Ready, ready, stopped-mark, open-vcpu, close-vcpu}
 use Rattle.model.proofs.Fresh.{fresh-sound, all-ones}
+use Rattle.model.proofs.Derived.{with-sound, with-fresh, with-alike}
+use Rattle.model.proofs.ReadsBack.{alike-then}
 use Rattle.model.proofs.Listed.{mem-map, family}
 use Rattle.model.proofs.Asked.{get-answers}
 use Rattle.model.proofs.Masks.{fits-word, block-word}
+use Rattle.model.specs.Values.{edgeBits}
+use Rattle.model.specs.Roles.{withDerived}
 
 -- ---- a list of n numbers by their places
 
@@ -44,7 +48,7 @@ tabulate-at f i (suc n) (suc k) l = let e : i + suc k ≡ suc i + k = omega arit
 -- ---- the words of the fresh device
 
 blockWord : List ℕ → ℕ → ℕ → ℕ
-blockWord s v j = cond (eqb j 13) 0xffff (cond (eqb j 16) (affinity s v) (cond (eqb j 21) 2 (cond (eqb j 22) 3 0)))
+blockWord s v j = cond (eqb j edgeField) edgeBits (cond (eqb j affinityField) (affinity s v) (cond (eqb j (bprField 0)) (leastBpr 0) (cond (eqb j (bprField 1)) (leastBpr 1) 0)))
 
 freshWord : List ℕ → ℕ → ℕ
 freshWord s k = cond (ltb k 3) (word s k) (cond (ltb k 16) 0 (cond (ltb k 272) (cond (ltb ((k - 16) / 32) (vcpus s)) (blockWord s ((k - 16) / 32) ((k - 16) % 32)) 0) 0))
@@ -78,29 +82,29 @@ module _ (s : List ℕ) (h : Ready s) where
   is-alike = record {
     same-count = in-header 1 (omega arith);
     same-number = in-header 2 (omega arith);
-    same-affinities = λ v l. in-block v 16 l (omega arith);
+    same-affinities = λ v l. in-block v affinityField l (omega arith);
   }
 
   each-vcpu : (v : ℕ) → v < vcpus s → vcpuOk freshState v ≡ true
   unfolding blockWord
   each-vcpu v l = close-vcpu freshState v (record {
-    edges = in-block v 13 l (omega arith);
-    bpr0 = rw (in-block v 21 l (omega arith)) (omega arith);
-    bpr1 = rw (in-block v 22 l (omega arith)) (omega arith);
-    distinct = λ u m. rw (in-block u 16 (omega arith) (omega arith), in-block v 16 l (omega arith)) (open-vcpu s v (h .each-vcpu v l) .distinct u m);
+    edges = in-block v edgeField l (omega arith);
+    bpr0 = rw (in-block v (bprField 0) l (omega arith)) (omega arith);
+    bpr1 = rw (in-block v (bprField 1) l (omega arith)) (omega arith);
+    distinct = λ u m. rw (in-block u affinityField (omega arith) (omega arith), in-block v affinityField l (omega arith)) (open-vcpu s v (h .each-vcpu v l) .distinct u m);
   })
 
   -- each word of a block is within the fresh masks
   block-fits : (v j : ℕ) → v < vcpus s → fits (blockWord s v j) (getD freshBlockBits j 0) ≡ true
   unfolding blockWord
-  block-fits v j l = go (ℕ-discrete j 13) (ℕ-discrete j 16) (ℕ-discrete j 21) (ℕ-discrete j 22)
+  block-fits v j l = go (ℕ-discrete j edgeField) (ℕ-discrete j affinityField) (ℕ-discrete j (bprField 0)) (ℕ-discrete j (bprField 1))
     where
-      go : Dec (j ≡ 13) → Dec (j ≡ 16) → Dec (j ≡ 21) → Dec (j ≡ 22) → fits (blockWord s v j) (getD freshBlockBits j 0) ≡ true
+      go : Dec (j ≡ edgeField) → Dec (j ≡ affinityField) → Dec (j ≡ bprField 0) → Dec (j ≡ bprField 1) → fits (blockWord s v j) (getD freshBlockBits j 0) ≡ true
       go (yes e) d16 d21 d22 = rw e (unfold fits within in refl)
-      go (no a) (yes e) d21 d22 = rw e (block-word s h v 16 l (omega arith))
+      go (no a) (yes e) d21 d22 = rw e (block-word s h v affinityField l (omega arith))
       go (no a) (no b) (yes e) d22 = rw e (unfold fits within in refl)
       go (no a) (no b) (no c) (yes e) = rw e (unfold fits within in refl)
-      go (no a) (no b) (no c) (no d) = rw (ne-eqb j 13 a, ne-eqb j 16 b, ne-eqb j 21 c, ne-eqb j 22 d) (zero-fits (getD freshBlockBits j 0))
+      go (no a) (no b) (no c) (no d) = rw (ne-eqb j edgeField a, ne-eqb j affinityField b, ne-eqb j (bprField 0) c, ne-eqb j (bprField 1) d) (zero-fits (getD freshBlockBits j 0))
 
   word-fits : (k : ℕ) → k < stateLength → fits (freshWord s k) (freshBits (vcpus s) k) ≡ true
   unfolding freshWord freshBits entry
@@ -132,15 +136,15 @@ fresh-alike s hs =
     let i = stopped-mark s (hs .is-stopped) in
     let h = ready s (hs .is-sound) i in
     let t = freshState s h in (
-      t,
+      withDerived t,
       record {
-        is-sound = fresh-sound t (long s h)
+        is-sound = with-sound t (fresh-sound t (long s h)
             (rw (in-header s h 0 (omega arith), in-header s h 1 (omega arith), in-header s h 2 (omega arith)) (open-sound s (hs .is-sound) .set-up))
             (rw (in-header s h 2 (omega arith)) (below-all (vcpuOk t) (vcpus s) (each-vcpu s h)))
-            (is-fresh s h);
-        is-fresh = is-fresh s h;
+            (is-fresh s h));
+        is-fresh = with-fresh t (is-fresh s h);
       },
-      is-alike s h,
+      alike-then s t (withDerived t) (is-alike s h) (with-alike t (rw (in-header s h 2 (omega arith)) (h .few))),
     )
 
 -- ---- and there is a list that puts every listed attribute

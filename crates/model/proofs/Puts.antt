@@ -8,14 +8,15 @@ use native.Mathlib.Omega.{arith}
 use borrow.Author.Tests.{eqb-true, lt-ltb, le-leb}
 use lib.Dec.{eqb, ltb, leb}
 use lib.ListN.{getD, set}
-use Rattle.model.specs.Words.{bit, gather, within, allBelow, spread}
-use Rattle.model.specs.Layout.{word, count, vcpus, block, bank, routeAt}
+use Rattle.model.specs.Words.{bit, gather, within, allBelow, spread, masked}
+use Rattle.model.specs.Layout.{word, count, vcpus, block, bank, routeAt, ctlrField}
 use Rattle.model.specs.Interrupts.{isPrivate, isSpi, flag, edge, priority}
 use Rattle.model.specs.Sound.{fits, usedBits, blockBits, bankBits, lastBankBits}
 use Rattle.model.specs.Registers.{has, seenBy, flagAfter, writeFlags, writePriority, writeConfig, writeRoute, write, flags, ruleFor, writtenStatus, statusAt}
 use Rattle.model.specs.Interface.{plainWrite}
 use Rattle.model.specs.Attributes.{Attribute, itemWrite}
 use Rattle.model.specs.Demands.{Alike}
+use Rattle.model.specs.declared.By.the-variants as by
 use Rattle.model.specs.declared.View.{View}
 use Rattle.model.specs.declared.View.the-variants.{Distributor, Frame}
 use Rattle.model.specs.declared.Rule.{Rule}
@@ -30,6 +31,7 @@ use Rattle.model.proofs.Readings.{flag-exists, priority-exists, edge-ex
 use Rattle.model.proofs.Listed.{Listed, Kept, groups, enables, latches, actives, Stored, pmr, ctlr, ap0r, ap1r, igrpen0, igrpen1, control, status, spi-flags, spi-lines, spi-priority, spi-config, spi-route, vcpu-status, vcpu-flags, vcpu-lines, vcpu-priority, vcpu-system, bpr0, bpr1}
 use Rattle.model.proofs.Places.{storedAt, placeOf, shown, systemShape, shapeOf, plainOf, namedBy, spread-bit}
 use Rattle.model.proofs.Cover.{edge-words, spi-of, vcpu-of}
+use Rattle.model.specs.Values.{iccCtlrFixed, iccCtlrBits, gicdCtlrFixed}
 
 -- ---- one bit
 
@@ -138,18 +140,12 @@ pmr-word w e = eqb-true _ _ (of-mask 0xf8 249 (λ u. eqb (u % 256 / 8 * 8) u) te
     test : allBelow (λ u. not (fits u 0xf8) || eqb (u % 256 / 8 * 8) u) 249 ≡ true
     test = unfold allBelow fits within in refl
 
--- CTLR: bit 1
-pub ctlr-word : (w : ℕ) → fits w 2 ≡ true → ((0x400 + w) / 2 % 2 * 2 ≡ w) × ((eqb (0x400 + w) 0x400 || eqb (0x400 + w) 0x402) ≡ true)
-ctlr-word w e = (eqb-true _ _ (of-mask 2 3 (λ u. eqb ((0x400 + u) / 2 % 2 * 2) u) test w small e), of-mask 2 3 (λ u. eqb (0x400 + u) 0x400 || eqb (0x400 + u) 0x402) taken w small e)
+-- CTLR: the bits that it keeps
+pub ctlr-word : (w : ℕ) → fits w iccCtlrBits ≡ true → masked iccCtlrBits (iccCtlrFixed + w) ≡ w
+ctlr-word w e = eqb-true _ _ (of-mask iccCtlrBits (iccCtlrBits + 1) (λ u. eqb (masked iccCtlrBits (iccCtlrFixed + u)) u) test w (omega (arith, fits-le w iccCtlrBits e)) e)
   where
-    small : w < 3
-    small = omega (arith, fits-le w 2 e)
-
-    test : allBelow (λ u. not (fits u 2) || eqb ((0x400 + u) / 2 % 2 * 2) u) 3 ≡ true
-    test = unfold allBelow fits within in refl
-
-    taken : allBelow (λ u. not (fits u 2) || (eqb (0x400 + u) 0x400 || eqb (0x400 + u) 0x402)) 3 ≡ true
-    taken = unfold allBelow fits within in refl
+    test : allBelow (λ u. not (fits u iccCtlrBits) || eqb (masked iccCtlrBits (iccCtlrFixed + u)) u) (iccCtlrBits + 1) ≡ true
+    test = unfold allBelow fits within masked gather bit in refl
 
 module _ (s : List ℕ) (h : Ready s) where
   route-word : (id : ℕ) → 32 ≤ id → id < min (count s) 1020 → word s (routeAt id) < 2 ^ 24
@@ -248,10 +244,10 @@ module _ (f s : List ℕ) (hf : Ready f) (hs : Ready s) (same : Alike f s) where
       ∙ rw b
 
   put-system : (v : ℕ) (p : Stored) → v < vcpus f
-      → plainWrite s v (plainOf p) (shown (systemShape p) (word f (block v + storedAt p))) ≡ set s (block v + storedAt p) (word f (block v + storedAt p))
+      → plainWrite by.Attribute s v (plainOf p) (shown (systemShape p) (word f (block v + storedAt p))) ≡ set s (block v + storedAt p) (word f (block v + storedAt p))
   unfolding plainWrite
   put-system v pmr l = ap (set s (block v + 19)) (pmr-word _ (block-word f hf v 19 l (omega arith)))
-  put-system v ctlr l = ap (set s (block v + 20)) (ctlr-word _ (block-word f hf v 20 l (omega arith)) .0)
+  put-system v ctlr l = ap (set s (block v + 20)) (ctlr-word _ (block-word f hf v ctlrField l (omega arith)))
   put-system v bpr0 l =
       let w = word f (block v + 21) in
       let e : max 2 (w % 8) ≡ w = omega (arith, fits-le w 7 (block-word f hf v 21 l (omega arith)), open-vcpu f v (hf .each-vcpu v l) .bpr0) in
@@ -273,10 +269,10 @@ module _ (f s : List ℕ) (hf : Ready f) (hs : Ready s) (same : Alike f s) where
 
   pub put-item : {a : Attribute} (l : Listed f a) → Puts (word s (placeOf l)) (word f (placeOf l)) (ruleOf l)
       → itemWrite s (namedBy l) (shown (shapeOf l) (word f (placeOf l))) ≡ set s (placeOf l) (word f (placeOf l))
-  unfolding itemWrite write flags ruleFor writtenStatus statusAt
+  unfolding itemWrite write flags ruleFor writtenStatus statusAt seenBy
   put-item control before =
       let w = word f 3 in
-      let e : (0x50 + w) % 4 ≡ w = omega (arith, fits-le w 3 (header-word f hf 3 (omega arith))) in
+      let e : (gicdCtlrFixed + w) % 4 ≡ w = omega (arith, fits-le w 3 (header-word f hf 3 (omega arith))) in
       ap (set s 3) e
   put-item status before =
       let w = word f 4 in

@@ -12,21 +12,24 @@ use Rattle.model.specs.Registers.{has, seenBy, writePriority, writeRoute
 use Rattle.model.specs.Attributes.{Attribute, itemOf, takes, itemRead, itemWrite}
 use Rattle.model.specs.Record.{listed, attributeOf, entryRead, readable}
 use Rattle.model.specs.Demands.{Stopped, Fresh, Alike}
+use Rattle.model.specs.declared.By.the-variants as by
 use Rattle.model.specs.declared.View.the-variants.{Distributor, Frame}
 use Rattle.model.specs.declared.Item.{Item}
 use Rattle.model.proofs.Tests.{both}
-use Rattle.model.proofs.Soundness.{stopped-ready, Ready}
+use Rattle.model.proofs.Soundness.{stopped-ready, Ready, ready-is-sound, Resting, stopped-resting, resting-stopped}
+use Rattle.model.proofs.Derived.{with-sound, with-stopped, with-alike, with-names, with-reads}
 use Rattle.model.proofs.Masks.{SpiWord}
 use Rattle.model.proofs.Fields.{bank-at}
 use Rattle.model.proofs.Readings.{is-spi}
 use Rattle.model.proofs.Listed.{Listed, groups, enables, latches, actives, pmr, ctlr, ap0r, ap1r, igrpen0, igrpen1, control, status, spi-flags, spi-lines, spi-priority, spi-config, spi-route, vcpu-status, vcpu-flags, vcpu-lines, vcpu-priority, vcpu-system, family, bpr0, bpr1}
 use Rattle.model.proofs.Places.{placeOf, namedBy, names-item, reads-place}
 use Rattle.model.proofs.Cover.{carried}
-use Rattle.model.proofs.Stores.{store-same, store-stopped}
+use Rattle.model.proofs.Stores.{store-same, store-resting}
 use Rattle.model.proofs.Writes.{Leaves, stores-flags, stores-priority, stores-config, stores-route, stores-enables, stores-status}
 use Rattle.model.proofs.System.{stores-pmr, stores-ctlr, stores-bpr, stores-apr, stores-igrpen}
 use Rattle.model.proofs.Restores.{fresh-ready, fresh-stopped}
 use Rattle.model.proofs.Recorded.{value-readable}
+use Rattle.model.specs.Roles.{withDerived}
 
 -- ---- a put of any value to a listed attribute stores a word that may stand there
 
@@ -71,42 +74,49 @@ module _ (s : List ℕ) (h : Ready s) where
   put-leaves (vcpu-flags v actives l) x = stores-flags s h (Frame v) 3 0 _ 0 x l (omega arith) (omega arith) refl
   put-leaves (vcpu-lines v l) x = stores-flags s h (Frame v) 4 16 _ 0 x l (omega arith) (omega arith) refl
   put-leaves (vcpu-priority v j l m) x = put-private-priority v j x l m
-  put-leaves (vcpu-system v pmr l) x = stores-pmr s h v x l
-  put-leaves (vcpu-system v ctlr l) x = stores-ctlr s h v x l
-  put-leaves (vcpu-system v bpr0 l) x = stores-bpr s h v 0 x l (omega arith)
-  put-leaves (vcpu-system v bpr1 l) x = stores-bpr s h v 1 x l (omega arith)
-  put-leaves (vcpu-system v ap0r l) x = stores-apr s h v 0 x l (omega arith)
-  put-leaves (vcpu-system v ap1r l) x = stores-apr s h v 1 x l (omega arith)
-  put-leaves (vcpu-system v igrpen0 l) x = stores-igrpen s h v 0 x l (omega arith)
-  put-leaves (vcpu-system v igrpen1 l) x = stores-igrpen s h v 1 x l (omega arith)
+  put-leaves (vcpu-system v pmr l) x = stores-pmr s h by.Attribute v x l
+  put-leaves (vcpu-system v ctlr l) x = stores-ctlr s h by.Attribute v x l
+  put-leaves (vcpu-system v bpr0 l) x = stores-bpr s h by.Attribute v 0 x l (omega arith)
+  put-leaves (vcpu-system v bpr1 l) x = stores-bpr s h by.Attribute v 1 x l (omega arith)
+  put-leaves (vcpu-system v ap0r l) x = stores-apr s h by.Attribute v 0 x l (omega arith)
+  put-leaves (vcpu-system v ap1r l) x = stores-apr s h by.Attribute v 1 x l (omega arith)
+  put-leaves (vcpu-system v igrpen0 l) x = stores-igrpen s h by.Attribute v 0 x l (omega arith)
+  put-leaves (vcpu-system v igrpen1 l) x = stores-igrpen s h by.Attribute v 1 x l (omega arith)
 
--- ---- and leaves a stopped device of the same set-up
+-- ---- and leaves the core of a stopped device of the same set-up
 
--- s is a stopped device of t's count and affinities
-pub record StoppedLike (t s : List ℕ) : Type 0 where
-  pub stopped : Stopped s
+-- s is the core of a stopped device of t's count and affinities
+pub record RestingLike (t s : List ℕ) : Type 0 where
+  pub resting : Resting s
   pub alike : Alike t s
 
-alike-then : (r s t : List ℕ) → Alike r s → Alike s t → Alike r t
+pub alike-then : (r s t : List ℕ) → Alike r s → Alike s t → Alike r t
 alike-then r s t a b = record {
   same-count = b .same-count ∙ a .same-count;
   same-number = b .same-number ∙ a .same-number;
   same-affinities = λ v l. b .same-affinities v (rw (a .same-number) l) ∙ a .same-affinities v l;
 }
 
-pub like-itself : (t : List ℕ) → Stopped t → StoppedLike t t
-like-itself t h = record { stopped = h; alike = record { same-count = refl; same-number = refl; same-affinities = λ v l. refl } }
+pub like-itself : (t : List ℕ) → Resting t → RestingLike t t
+like-itself t h = record { resting = h; alike = record { same-count = refl; same-number = refl; same-affinities = λ v l. refl } }
 
-pub put-like : (t s : List ℕ) → StoppedLike t s → {a : Attribute} → Listed t a → (v : ℕ) → StoppedLike t (itemWrite s (itemOf a s) v)
+pub put-like : (t s : List ℕ) → RestingLike t s → {a : Attribute} → Listed t a → (v : ℕ) → RestingLike t (itemWrite s (itemOf a s) v)
 put-like t s h {a} l v =
-    let rs = stopped-ready s (h .stopped) in
+    let rs = h .resting .is-ready in
     let there = carried t s (h .alike) l .there in
     let p = put-leaves s rs there v in
     let put : itemWrite s (itemOf a s) v ≡ set s (placeOf there) (p .stored) = ap (λ (j : Item). itemWrite s j v) (names-item s rs there) ∙ p .state in
     rw put (record {
-      stopped = store-stopped s (placeOf there) (p .stored) (p .may) (h .stopped) (p .idle);
-      alike = alike-then t s _ (h .alike) (store-same s (placeOf there) (p .stored) (p .may) .alike);
+      resting = store-resting s (placeOf there) (p .stored) (rs .few) (p .may) (h .resting) (p .idle);
+      alike = alike-then t s _ (h .alike) (store-same s (placeOf there) (p .stored) (rs .few) (p .may) .alike);
     })
+
+-- with its derived words it is such a device
+pub derived-like : (t s : List ℕ) → RestingLike t s → Stopped (withDerived s) × Alike t (withDerived s)
+derived-like t s h = (
+  record { is-sound = with-sound s (ready-is-sound s (h .resting .is-ready)); is-stopped = with-stopped s (resting-stopped s (h .resting)) },
+  alike-then t s (withDerived s) (h .alike) (with-alike s (h .resting .is-ready .few)),
+)
 
 -- ---- the rule
 
@@ -129,19 +139,22 @@ module _ (t : List ℕ) (ht : Fresh t) {a : Attribute} (m : Listed t a) (v : ℕ
   reads-so : readable t (attributeOf a) v ≡ true → ReadsSo t a v
   unfolding ReadsSo readable entryRead
   reads-so e =
-      (d, p .stopped, p .alike, ap (itemRead d) named ∙ eqb-true _ v (both (takes (itemOf a t) v) _ e .1))
+      (withDerived d, like .0, like .1, ap (itemRead (withDerived d)) (with-names d a) ∙ with-reads d (itemOf a d) ∙ ap (itemRead d) named ∙ eqb-true _ v (both (takes (itemOf a t) v) _ e .1))
     where
       d : List ℕ
       d = itemWrite t (itemOf a t) v
 
-      p : StoppedLike t d
-      p = put-like t t (like-itself t (fresh-stopped t ht)) m v
+      p : RestingLike t d
+      p = put-like t t (like-itself t (stopped-resting t (fresh-stopped t ht))) m v
+
+      like : Stopped (withDerived d) × Alike t (withDerived d)
+      like = derived-like t d p
 
       -- it has the attribute at the same item
       named : itemOf a d ≡ itemOf a t
       named =
           let c = carried t d (p .alike) m in
-          names-item d (stopped-ready d (p .stopped)) (c .there) ∙ c .names ∙ sym (names-item t rt m)
+          names-item d (p .resting .is-ready) (c .there) ∙ c .names ∙ sym (names-item t rt m)
 
   -- a value that such a device reads is taken and reads back
   so-readable : ReadsSo t a v → readable t (attributeOf a) v ≡ true

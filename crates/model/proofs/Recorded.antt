@@ -13,7 +13,7 @@ use Rattle.model.specs.Layout.{word, vcpus, block, affinity}
 use Rattle.model.specs.Attributes.{Attribute, itemOf, itemRead, itemWrite}
 use Rattle.model.specs.Record.{ofVcpuBlock, listed, Entry, header, attributeOf, entries, entryRead, entryBytes, recordOf, readable, entryPut, done, taking, load, restored, faults, loadedState, saved}
 use Rattle.model.specs.declared.Refusal.the-variants.{None}
-use Rattle.model.specs.Calls.{save, restore, call, lentTo, acceptable, checks, refusal, value, next, filled, frontOf, handedBack, trace}
+use Rattle.model.specs.Calls.{save, restore, call, refusal, value, frontOf, handedBack, trace, describe}
 use Rattle.model.specs.declared.Item.{Item}
 use Rattle.model.specs.Demands.{Stopped, Fresh, Alike, ByRecord}
 use Rattle.model.proofs.Tests.{and-true}
@@ -21,12 +21,14 @@ use Rattle.model.proofs.Numbers.{decode-encode}
 use Rattle.model.proofs.Soundness.{stopped-ready, Ready}
 use Rattle.model.proofs.Listed.{mem-map, Listed, family, member}
 use Rattle.model.proofs.Places.{placeOf, shown, shapeOf, namedBy, names-item, reads-place, one-place}
-use Rattle.model.proofs.Cover.{shows, carried, place-inside}
-use Rattle.model.proofs.Mixed.{Agrees, agrees-put, agrees-kept, Between, between-start, between-put, mixed-alike, mixed-ready}
+use Rattle.model.proofs.Cover.{shows, carried, place-core, place-inside}
+use Rattle.model.proofs.Mixed.{Agrees, agrees-put, agrees-kept, Between, between-put, start-between, mixed-alike, mixed-ready}
 use Rattle.model.proofs.Asked.{value-taken}
 use Rattle.model.proofs.Refused.{none-of, tests-next, is-granted}
 use Rattle.model.proofs.Restores.{fresh-ready, fresh-stopped, item-put, all-agree}
 use Rattle.model.proofs.Masks.{fits-word}
+use Rattle.model.specs.Roles.{withDerived}
+use Rattle.model.proofs.Derived.{sound-with}
 
 -- ---- devices of the same set-up have the same entries
 
@@ -103,15 +105,15 @@ module _ (from to : List ℕ) (hf : Stopped from) (ht : Fresh to) (same : Alike 
 
   module _ (s : List ℕ) (b : Between from to s) where
     rs : Ready s
-    rs = mixed-ready from to s rf rt same b
+    rs = mixed-ready from to rf rt same s b
 
     -- a listed attribute of the first names the same item here, and reads the word at the same place
     names-here : {a : Attribute} (l : Listed from a) → itemOf a s ≡ namedBy l
-    names-here l = let c = carried from s (mixed-alike from to s rf rt same b) l in names-item s rs (c .there) ∙ c .names
+    names-here l = let c = carried from s (mixed-alike from to rf rt same s b) l in names-item s rs (c .there) ∙ c .names
 
     reads-here : {a : Attribute} (l : Listed from a) → itemRead s (namedBy l) ≡ shown (shapeOf l) (word s (placeOf l))
     reads-here l =
-        let c = carried from s (mixed-alike from to s rf rt same b) l in
+        let c = carried from s (mixed-alike from to rf rt same s b) l in
         ap (itemRead s) (sym (names-here l)) ∙ (rw (c .place, c .shape) at (reads-place s rs (c .there)))
 
   -- the value that the first device reads is one that some device of the target's set-up reads
@@ -119,8 +121,8 @@ module _ (from to : List ℕ) (hf : Stopped from) (ht : Fresh to) (same : Alike 
   unfolding readable
   value-readable {a} l =
       let p = placeOf l in
-      let start = between-start from to (rt .size) in
-      let there : Between from to (set to p (word from p)) = between-put from to to p (place-inside from rf l) start in
+      let start = start-between from to rf rt same in
+      let there : Between from to (set to p (word from p)) = between-put from to to p (place-inside from rf l) (place-core from rf l) start in
       let back : itemRead (set to p (word from p)) (namedBy l) ≡ shown (shapeOf l) (word from p) =
       reads-here (set to p (word from p)) there l ∙ ap (shown (shapeOf l)) (getD-set-same to p (word from p) 0 (omega (arith, rt .size, place-inside from rf l))) in
       rw (names-here to start l, item-put from to hf ht same to start l, back) (and-true (value-taken from rf l) (eq-eqb (shown (shapeOf l) (word from p)) (shown (shapeOf l) (word from p)) refl))
@@ -178,7 +180,7 @@ module _ (from to : List ℕ) (hf : Stopped from) (ht : Fresh to) (same : Alike 
           puts = rw value (unfold entryPut in (ap (λ (i : Item). itemWrite s i (shown (shapeOf l) (word from (placeOf l)))) (names-here s b l) ∙ item-put from to hf ht same s b l))
 
           r : (t : List ℕ) × Loads es u t
-          r = ih u (g .1) (between-put from to s (placeOf l) (place-inside from rf l) b)
+          r = ih u (g .1) (between-put from to s (placeOf l) (place-inside from rf l) (place-core from rf l) b)
 
           stores : (a : Attribute) (m : Listed from a) → List·Memᴰ (attributeOf a) (attributeOf c ∷ es) → Agrees from (placeOf m) (r .0)
           stores a m (List·Memᴰ·tail q) = r .1 .stored a m q
@@ -189,52 +191,52 @@ module _ (from to : List ℕ) (hf : Stopped from) (ht : Fresh to) (same : Alike 
   unfolding entries
   is-entry a m = List·Memᴰ·tail (List·Memᴰ·tail (List·Memᴰ·tail (Memᴰ·append-right (each (λ v. header (affinity from v) ∷ []) 0 (vcpus from)) (mem-map attributeOf (listed from) m))))
 
-  pub loads-record : restored to (recordOf from) ≡ done from
+  -- the record of the first is read into the second, and leaves the first device's state but for the derived words
+  pub loads-record : (u : List ℕ) × (restored to (recordOf from) ≡ done u) × (withDerived u ≡ from)
   unfolding restored recordOf Agrees
   loads-record =
-      let r = loads (entries from) to (good-entries from rf) (between-start from to (rt .size)) in
-      let e : r .0 ≡ from = all-agree from to hf ht same (r .0) (r .1 .between) (λ a l. r .1 .stored a l (is-entry a (member from rf l))) in
-      rw (same-entries from to same) (r .1 .loaded ∙ ap done e)
+      let r = loads (entries from) to (good-entries from rf) (start-between from to rf rt same) in
+      (r .0, rw (same-entries from to same) (r .1 .loaded), all-agree from to hf ht same (r .0) (r .1 .between) (λ a l. r .1 .stored a l (is-entry a (member from rf l))))
 
   -- ---- restore of the record, as a call
 
   restore-grants : refusal (restore (recordOf from)) to ≡ None
-  unfolding lentTo acceptable checks faults
+  unfolding describe faults
   restore-grants =
       tests-next (restore (recordOf from)) to (ht .is-sound)
-      ∙ rw loads-record (none-of _ (fresh-stopped to ht .is-stopped, (ht .is-fresh, tt)))
+      ∙ rw (loads-record .1) (none-of _ (fresh-stopped to ht .is-stopped, (ht .is-fresh, tt)))
 
   restore-answer : call (restore (recordOf from)) to .answer ≡ pos 0
-  unfolding value
+  unfolding describe
   restore-answer = is-granted (restore (recordOf from)) to restore-grants .answer
 
   restore-state : call (restore (recordOf from)) to .state ≡ from
-  unfolding next loadedState
-  restore-state = is-granted (restore (recordOf from)) to restore-grants .state ∙ rw loads-record
+  unfolding describe loadedState
+  restore-state = is-granted (restore (recordOf from)) to restore-grants .state ∙ rw (loads-record .1) (loads-record .2)
 
 -- ---- save, as a call
 
 module _ (from buf : List ℕ) (hf : Stopped from) (room : length (recordOf from) ≤ length buf) where
   save-grants : refusal (save buf) from ≡ None
-  unfolding lentTo acceptable checks
+  unfolding describe
   save-grants = tests-next (save buf) from (hf .is-sound) ∙ none-of _ (hf .is-stopped, (le-leb (length (recordOf from)) (length buf) room, tt))
 
   pub save-answer : call (save buf) from .answer ≡ pos (length (recordOf from))
-  unfolding value
+  unfolding describe
   save-answer = is-granted (save buf) from save-grants .answer
 
   pub save-keeps : call (save buf) from .state ≡ from
-  unfolding next
-  save-keeps = is-granted (save buf) from save-grants .state
+  unfolding describe
+  save-keeps = is-granted (save buf) from save-grants .state ∙ sound-with from (hf .is-sound)
 
-  save-buffer : call (save buf) from .buffer ≡ recordOf from ++ drop (length (recordOf from)) buf
-  unfolding lentTo filled saved
-  save-buffer = is-granted (save buf) from save-grants .buffer
+  save-buffers : call (save buf) from .buffers ≡ (recordOf from ++ drop (length (recordOf from)) buf) ∷ []
+  unfolding describe saved
+  save-buffers = is-granted (save buf) from save-grants .buffers
 
   -- what it hands back is the record
   pub save-hands : handedBack (call (save buf) from) ≡ recordOf from
   unfolding handedBack frontOf
-  save-hands = rw (save-answer, save-buffer) (take-append-seam (recordOf from) (drop (length (recordOf from)) buf))
+  save-hands = rw (save-answer, save-buffers) (take-append-seam (recordOf from) (drop (length (recordOf from)) buf))
 
 pub by-record : (from to : List ℕ) → Stopped from → Fresh to → Alike from to → (buf : List ℕ) → length (recordOf from) ≤ length buf → ByRecord from to buf
 by-record from to hf ht same buf room =

@@ -8,7 +8,8 @@ use native.Mathlib.Omega.{arith}
 use borrow.Author.Tests.{eq-eqb, ne-eqb, lt-ltb, le-ltb, le-leb, lt-leb, not-true, not-false}
 use lib.IntN.{pos, negsuc, negℤ}
 use Rattle.model.specs.Refusals.{Check, firstFailing, errno, number}
-use Rattle.model.specs.Calls.{Call, Outcome, Does, lentTo, acceptable, checks, refusal, value, next, lentBytes, filled, settle, call}
+use Rattle.model.specs.Calls.{Call, Outcome, Does, lentTo, acceptable, checks, refusal, value, nextCore, next, filled, settle, call}
+use Rattle.model.specs.Roles.{withDerived}
 use Rattle.model.specs.declared.Errno.{Errno}
 use Rattle.model.specs.declared.Errno.the-variants.{Eperm, Eio, Enxio, Enomem, Efault, Ebusy, Eexist, Enodev, Einval, Enospc, Ebadmsg}
 use Rattle.model.specs.declared.Refusal.{Refusal}
@@ -81,38 +82,38 @@ after c xs ys e = ap (λ (f : Refusal). elim (c .0) [ true ↦ f | false ↦ Ref
 
 -- ---- EFAULT first, then the call's own tests in their order
 
-pub fault-first : (c : Call) (s : List ℕ) → acceptable (lentTo c) s ≡ false → refusal c s ≡ Refuse Efault
+pub fault-first : (c : Call) (s : List ℕ) → acceptable c s ≡ false → refusal c s ≡ Refuse Efault
 unfolding refusal
 fault-first c s e = rw (e, refusal)
 
-pub tests-next : (c : Call) (s : List ℕ) → acceptable (lentTo c) s ≡ true → refusal c s ≡ firstFailing (checks c s)
+pub tests-next : (c : Call) (s : List ℕ) → acceptable c s ≡ true → refusal c s ≡ firstFailing (checks c s)
 unfolding refusal
 tests-next c s e = rw (e, refusal)
 
-pub refusal-list : (c : Call) (s : List ℕ) → refusal c s ≡ firstFailing ((acceptable (lentTo c) s, Efault) ∷ checks c s)
+pub refusal-list : (c : Call) (s : List ℕ) → refusal c s ≡ firstFailing ((acceptable c s, Efault) ∷ checks c s)
 unfolding refusal firstFailing
 refusal-list c s = refl
 
 -- where a call is not refused, its state is acceptable and all its tests hold
-pub unrefused : (c : Call) (s : List ℕ) → refusal c s ≡ None → (acceptable (lentTo c) s ≡ true) × Passed (checks c s)
-unrefused c s e = step (acceptable (lentTo c) s) refl
+pub unrefused : (c : Call) (s : List ℕ) → refusal c s ≡ None → (acceptable c s ≡ true) × Passed (checks c s)
+unrefused c s e = step (acceptable c s) refl
   where
-    step : (b : Bool) → acceptable (lentTo c) s ≡ b → (acceptable (lentTo c) s ≡ true) × Passed (checks c s)
+    step : (b : Bool) → acceptable c s ≡ b → (acceptable c s ≡ true) × Passed (checks c s)
     step true h = (h, passed (checks c s) (sym (tests-next c s h) ∙ e))
     step false h = let z : _≡_ {A = ℕ} 0 1 = cc (sym (fault-first c s h) ∙ e) in absurd (omega arith)
 
 -- a call whose state is not acceptable answers -14, whatever it is
-pub fault-answer : (c : Call) (s : List ℕ) → acceptable (lentTo c) s ≡ false → call c s .answer ≡ negℤ (pos 14)
+pub fault-answer : (c : Call) (s : List ℕ) → acceptable c s ≡ false → call c s .answer ≡ negℤ (pos 14)
 unfolding call settle number errno
 fault-answer c s e = ap (λ (r : Refusal). settle r c s .answer) (fault-first c s e)
 
 -- ---- every call is refused or not
 
-pub granted : (c : Call) (s : List ℕ) → refusal c s ≡ None → call c s ≡ record { answer = pos (value c s); state = next c s; buffer = filled (lentTo c) s }
+pub granted : (c : Call) (s : List ℕ) → refusal c s ≡ None → call c s ≡ record { answer = pos (value c s); state = next c s; buffers = filled c s }
 unfolding call settle number
 granted c s e = ap (λ (r : Refusal). settle r c s) e
 
-pub refused : (c : Call) (s : List ℕ) (e : Errno) → refusal c s ≡ Refuse e → call c s ≡ record { answer = negℤ (pos (errno e)); state = s; buffer = lentBytes (lentTo c) }
+pub refused : (c : Call) (s : List ℕ) (e : Errno) → refusal c s ≡ Refuse e → call c s ≡ record { answer = negℤ (pos (errno e)); state = s; buffers = lentTo c s }
 unfolding call settle number
 refused c s e h = ap (λ (r : Refusal). settle r c s) h
 
@@ -123,19 +124,19 @@ refused-or-granted c s = step (refusal c s) refl
     step None h = inl h
     step (Refuse e) h = inr (e, h)
 
--- a call that is refused with e changes no word of the state and no byte of the lent buffer
+-- a call that is refused with e changes no word of the state and nothing of the lent buffers
 pub record IsRefused (c : Call) (s : List ℕ) (e : Errno) : Type 0 where
   pub refuses : refusal c s ≡ Refuse e
   pub answer : call c s .answer ≡ negℤ (pos (errno e))
   pub state : call c s .state ≡ s
-  pub buffer : call c s .buffer ≡ lentBytes (lentTo c)
+  pub buffers : call c s .buffers ≡ lentTo c s
 
 -- a call that is not refused
 pub record IsGranted (c : Call) (s : List ℕ) : Type 0 where
   pub grants : refusal c s ≡ None
   pub answer : call c s .answer ≡ pos (value c s)
   pub state : call c s .state ≡ next c s
-  pub buffer : call c s .buffer ≡ filled (lentTo c) s
+  pub buffers : call c s .buffers ≡ filled c s
 
 pub is-refused : (c : Call) (s : List ℕ) (e : Errno) → refusal c s ≡ Refuse e → IsRefused c s e
 is-refused c s e h =
@@ -143,7 +144,7 @@ is-refused c s e h =
       refuses = h;
       answer = ap (λ (o : Outcome). o .answer) (refused c s e h);
       state = ap (λ (o : Outcome). o .state) (refused c s e h);
-      buffer = ap (λ (o : Outcome). o .buffer) (refused c s e h);
+      buffers = ap (λ (o : Outcome). o .buffers) (refused c s e h);
     }
 
 pub is-granted : (c : Call) (s : List ℕ) → refusal c s ≡ None → IsGranted c s
@@ -152,7 +153,7 @@ is-granted c s h =
       grants = h;
       answer = ap (λ (o : Outcome). o .answer) (granted c s h);
       state = ap (λ (o : Outcome). o .state) (granted c s h);
-      buffer = ap (λ (o : Outcome). o .buffer) (granted c s h);
+      buffers = ap (λ (o : Outcome). o .buffers) (granted c s h);
     }
 
 pub every-call : (c : Call) (s : List ℕ) → IsGranted c s ⊎ ((e : Errno) × IsRefused c s e)
@@ -200,22 +201,23 @@ negative-refused c s =
 
 -- ---- what a function of the code promises: the refusal, and the call by its refusal
 
-pub fault-is : (c : Call) (s : List ℕ) → acceptable (lentTo c) s ≡ false → Refuse Efault ≡ refusal c s
+pub fault-is : (c : Call) (s : List ℕ) → acceptable c s ≡ false → Refuse Efault ≡ refusal c s
 fault-is c s e = sym (fault-first c s e)
 
-pub refuse-is : (c : Call) (s : List ℕ) (e : Errno) → acceptable (lentTo c) s ≡ true → Fails (checks c s) e → Refuse e ≡ refusal c s
+pub refuse-is : (c : Call) (s : List ℕ) (e : Errno) → acceptable c s ≡ true → Fails (checks c s) e → Refuse e ≡ refusal c s
 refuse-is c s e a h = sym (tests-next c s a ∙ fails-first h)
 
-pub none-is : (c : Call) (s : List ℕ) → acceptable (lentTo c) s ≡ true → Passed (checks c s) → None ≡ refusal c s
+pub none-is : (c : Call) (s : List ℕ) → acceptable c s ≡ true → Passed (checks c s) → None ≡ refusal c s
 none-is c s a h = sym (tests-next c s a ∙ none-of (checks c s) h)
 
-pub refuses : (c : Call) (s b : List ℕ) (e : Errno) → Refuse e ≡ refusal c s → b ≡ lentBytes (lentTo c) → Does (call c s) (number (Refused e)) s b
+pub refuses : (c : Call) (s : List ℕ) (b : List (List ℕ)) (e : Errno) → Refuse e ≡ refusal c s → b ≡ lentTo c s → Does (call c s) (number (Refused e)) s b
 unfolding number
-refuses c s b e h r = rw (refused c s e (sym h)) (record { answer = refl; state = refl; buffer = r })
+refuses c s b e h r = rw (refused c s e (sym h)) (record { answer = refl; state = refl; buffers = r })
 
-pub grants : (c : Call) (s : List ℕ) (v : ℕ) (t b : List ℕ) → None ≡ refusal c s → v ≡ value c s → t ≡ next c s → b ≡ filled (lentTo c) s → Does (call c s) (number (Value v)) t b
-unfolding number
-grants c s v t b h p q r = rw (granted c s (sym h)) (record { answer = ap pos p; state = q; buffer = r })
+-- the code stores what the core's next state has: no word is derived yet
+pub grants : (c : Call) (s : List ℕ) (v : ℕ) (t : List ℕ) (b : List (List ℕ)) → None ≡ refusal c s → v ≡ value c s → t ≡ nextCore c s → b ≡ filled c s → Does (call c s) (number (Value v)) t b
+unfolding number withDerived
+grants c s v t b h p q r = rw (granted c s (sym h)) (record { answer = ap pos p; state = q; buffers = r })
 
 -- what a function that returns a test's value tells
 pub told-no : (b r : Bool) → r ≡ b → not r ≡ true → b ≡ false

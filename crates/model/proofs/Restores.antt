@@ -1,33 +1,34 @@
 -- Demand 3 by attributes: putting the listed attributes of a stopped device into a fresh one of the same set-up makes the two equal and for ever after alike.
 use Prim.Native.Nat.{ℕ, _+_, _*_, _-_, _≤_, _<_}
 use mathlib.Core.Path.{_≡_, refl, sym, ap, _∙_, subst}
-use mathlib.Core.Bool.{true}
+use mathlib.Core.Bool.{true, false}
 use mathlib.Core.List.{List, [], _∷_, _++_, List·Memᴰ, List·Memᴰ·head, List·Memᴰ·tail, List·Memᴰ·not-nil}
 use mathlib.Core.Logic.{_⊎_, inl, inr, ⊎-elim}
 use native.Mathlib.Omega.{arith}
 use borrow.Author.Tests.{eqb-true, lt-ltb, le-ltb}
 use lib.IntN.{pos, negsuc}
 use lib.ListN.{length, set, getD}
-use lib.Seq.{ext-getD}
 use Rattle.model.specs.Words.{every}
-use Rattle.model.specs.Layout.{stateLength, word, initialised, vcpus, block, running, isInitialised}
-use Rattle.model.specs.Sound.{fresh, fits, freshBits, freshBlockBits}
+use Rattle.model.specs.Layout.{stateLength, word, initialised, vcpus, block, running, isInitialised, runningField}
+use Rattle.model.specs.Roles.{roleOf, isDerived, withDerived}
+use Rattle.model.specs.Sound.{sound, stopped, fresh, fits, freshBits, freshBlockBits}
 use Rattle.model.specs.Attributes.{Attribute, attr, item, itemRead, itemWrite, groupOf}
-use Rattle.model.specs.Calls.{Call, getAttribute, setAttribute, call, lentTo, acceptable, registerChecks, setChecks, checks, refusal, value, setState, next, after, trace}
+use Rattle.model.specs.Calls.{Call, getAttribute, setAttribute, call, registerChecks, setChecks, refusal, setState, after, trace, describe}
 use Rattle.model.specs.declared.Refusal.the-variants.{None}
 use Rattle.model.specs.Demands.{Stopped, Fresh, Alike, Put, puts, Allowed, put, get, refused, Restoring, one, Whole, ByAttributes}
 use Rattle.model.specs.declared.RegisterGroup.{RegisterGroup}
 use Rattle.model.specs.declared.AttributeGroup.the-variants.{Registers}
 use Rattle.model.proofs.Tests.{both, every-at}
 use Rattle.model.proofs.Within.{fits-none}
-use Rattle.model.proofs.Soundness.{stopped-ready, Ready, ready, stopped-running, running-stopped}
+use Rattle.model.proofs.Soundness.{stopped-ready, Ready, ready, ready-is-sound, stopped-running, running-stopped, stopped-resting, resting-stopped}
+use Rattle.model.proofs.Derived.{with-word, with-sound, sound-with, core-decides}
 use Rattle.model.proofs.Masks.{entry-there, fresh-block-bits}
 use Rattle.model.proofs.Refused.{none-of, tests-next, is-granted, is-refused, every-call, negative-errno}
 use Rattle.model.proofs.Listed.{Listed, groups, enables, latches, actives, control, status, spi-flags, spi-lines, spi-priority, spi-config, spi-route, vcpu-status, vcpu-flags, vcpu-lines, vcpu-priority, vcpu-system, family, member}
 use Rattle.model.proofs.Places.{placeOf, shown, shapeOf, namedBy, names-item, reads-place}
-use Rattle.model.proofs.Cover.{Owned, each-owned, place-inside}
+use Rattle.model.proofs.Cover.{Owned, each-owned, place-core, place-inside}
 use Rattle.model.proofs.Puts.{Puts, replaces, sets-clear, sets-same, ruleOf, put-item}
-use Rattle.model.proofs.Mixed.{Agrees, agrees-put, agrees-kept, Between, between-start, between-put, mixed-alike, mixed-ready, mixed-stopped}
+use Rattle.model.proofs.Mixed.{Agrees, agrees-put, agrees-kept, agrees-with, Between, between-put, start-between, derived-between, mixed-alike, mixed-ready, mixed-resting}
 use Rattle.model.proofs.Asked.{groupFor, group-is, same-item, same-known, value-taken, named-known, item-of, Answered, get-answered}
 
 -- ---- a fresh device
@@ -60,7 +61,7 @@ module _ (s : List ℕ) (h : Fresh s) where
   pub fresh-stopped : Stopped s
   fresh-stopped = record {
     is-sound = h .is-sound;
-    is-stopped = running-stopped s (fresh-mark s h) (λ v l. block-clear v 17 l (omega arith) refl);
+    is-stopped = running-stopped s (fresh-mark s h) (λ v l. block-clear v runningField l (omega arith) refl);
   }
 
 -- ---- a put
@@ -100,18 +101,32 @@ module _ (from to : List ℕ) (hf : Stopped from) (ht : Fresh to) (same : Alike 
   pub item-put : (s : List ℕ) → Between from to s → {a : Attribute} (l : Listed from a)
       → itemWrite s (namedBy l) (shown (shapeOf l) (word from (placeOf l))) ≡ set s (placeOf l) (word from (placeOf l))
   item-put s b l =
-      put-item from s rf (mixed-ready from to s rf rt same b) (mixed-alike from to s rf rt same b) l (may-put l (word s (placeOf l)) (b .each (placeOf l) (place-inside from rf l)))
+      put-item from s rf (mixed-ready from to rf rt same s b) (mixed-alike from to rf rt same s b) l (may-put l (word s (placeOf l)) (b .each (placeOf l) (place-inside from rf l) (place-core from rf l)))
+
+  -- the states that the list goes through
+  pub record Among (s : List ℕ) : Type 0 where
+    pub between : Between from to s
+    pub is-sound : sound s ≡ true
+
+  -- storing a word of the first device leads to such a state
+  among-put : (s : List ℕ) (p : ℕ) → p < stateLength → isDerived (roleOf p) ≡ false → Among s → Among (withDerived (set s p (word from p)))
+  among-put s p l core m =
+      let b = between-put from to s p l core (m .between) in
+      record { between = derived-between from to rf rt same _ b; is-sound = with-sound _ (ready-is-sound _ (mixed-ready from to rf rt same _ b)) }
 
   -- a put is granted, answers 0 and stores the first device's word
   pub record Stores (c : Call) (s : List ℕ) (p : ℕ) : Type 0 where
     pub answer : call c s .answer ≡ pos 0
-    pub state : call c s .state ≡ set s p (word from p)
+    pub state : call c s .state ≡ withDerived (set s p (word from p))
 
-  pub put-stores : (s : List ℕ) → Between from to s → {a : Attribute} {c : Call} (l : Listed from a) → Put from a c → Stores c s (placeOf l)
-  unfolding lentTo acceptable checks setChecks registerChecks value next setState
-  put-stores s b {a} l (puts n v e g) =
-      record { answer = is-granted c s grants .answer; state = is-granted c s grants .state ∙ rw (eg, i, is-value) (item-put s b l) }
+  pub put-stores : (s : List ℕ) → Among s → {a : Attribute} {c : Call} (l : Listed from a) → Put from a c → Stores c s (placeOf l)
+  unfolding describe setChecks registerChecks setState
+  put-stores s m {a} l (puts n v e g) =
+      record { answer = is-granted c s grants .answer; state = is-granted c s grants .state ∙ rw (eg, i, is-value) (ap withDerived (item-put s b l)) }
     where
+      b : Between from to s
+      b = m .between
+
       c : Call
       c = setAttribute (a .group) n v
 
@@ -125,7 +140,7 @@ module _ (from to : List ℕ) (hf : Stopped from) (ht : Fresh to) (same : Alike 
       told = get-answered from (a .group) n v q eg g
 
       alike : Alike from s
-      alike = mixed-alike from to s rf rt same b
+      alike = mixed-alike from to rf rt same s b
 
       -- the number names the same item here as the listed one there
       there : item q n from ≡ namedBy l
@@ -137,80 +152,82 @@ module _ (from to : List ℕ) (hf : Stopped from) (ht : Fresh to) (same : Alike 
       is-value : v ≡ shown (shapeOf l) (word from (placeOf l))
       is-value = sym (told .reads) ∙ ap (itemRead from) (there ∙ sym (names-item from rf l)) ∙ reads-place from rf l
 
-      stop : Stopped s
-      stop = mixed-stopped from to s rf rt same b hf (fresh-stopped to ht)
+      at-rest : stopped s ≡ true
+      at-rest = resting-stopped s (mixed-resting from to rf rt same s b (stopped-resting from hf) (stopped-resting to (fresh-stopped to ht)))
 
       grants : refusal c s ≡ None
       grants =
-          tests-next c s (stop .is-sound) ∙ rw eg (none-of (registerChecks q n s ++ _)
-          (told .number, (same-known from s alike q n ∙ told .affinity, (stop .is-stopped, (rw i (named-known from rf l), (rw (i, is-value) (value-taken from rf l), tt))))))
+          tests-next c s (m .is-sound) ∙ rw eg (none-of (registerChecks q n s ++ _)
+          (told .number, (same-known from s alike q n ∙ told .affinity, (at-rest, (rw i (named-known from rf l), (rw (i, is-value) (value-taken from rf l), tt))))))
 
   -- ---- the list: each call leaves a state between the two, and a word that is the first device's stays so
 
-  get-keeps : (g a : ℕ) (s : List ℕ) → call (getAttribute g a) s .state ≡ s
-  unfolding next
-  get-keeps g a s = ⊎-elim (λ r. r .state) (λ r. r .1 .state) (every-call (getAttribute g a) s)
+  get-keeps : (g a : ℕ) (s : List ℕ) → sound s ≡ true → call (getAttribute g a) s .state ≡ s
+  unfolding describe
+  get-keeps g a s h = ⊎-elim (λ r. r .state ∙ sound-with s h) (λ r. r .1 .state) (every-call (getAttribute g a) s)
 
   refused-keeps : (c : Call) (s : List ℕ) (e : ℕ) → call c s .answer ≡ negsuc e → call c s .state ≡ s
   refused-keeps c s e r = let n = negative-errno c s e r in is-refused c s (n .0) (n .1) .state
 
   -- each call of the list leaves the state as it is, or stores a word of the first device
-  step : (s : List ℕ) → Between from to s → {c : Call} → Allowed from s c
-      → (call c s .state ≡ s) ⊎ ((q : ℕ) × (q < stateLength) × (call c s .state ≡ set s q (word from q)))
-  step s b (put m p) = let l = family from rf m in inr (placeOf l, place-inside from rf l, put-stores s b l p .state)
-  step s b (get g a) = inl (get-keeps g a s)
+  step : (s : List ℕ) → Among s → {c : Call} → Allowed from s c
+      → (call c s .state ≡ s) ⊎ ((q : ℕ) × (q < stateLength) × (isDerived (roleOf q) ≡ false) × (call c s .state ≡ withDerived (set s q (word from q))))
+  step s b (put m p) = let l = family from rf m in inr (placeOf l, place-inside from rf l, place-core from rf l, put-stores s b l p .state)
+  step s b (get g a) = inl (get-keeps g a s (b .is-sound))
   step s b (refused g a v e r) = inl (refused-keeps (setAttribute g a v) s e r)
 
-  step-between : (s : List ℕ) → Between from to s → {c : Call} → Allowed from s c → Between from to (call c s .state)
-  step-between s b a = ⊎-elim (λ e. rw e b) (λ e. rw (e .2) (between-put from to s (e .0) (e .1) b)) (step s b a)
+  step-among : (s : List ℕ) → Among s → {c : Call} → Allowed from s c → Among (call c s .state)
+  step-among s b a = ⊎-elim (λ e. rw e b) (λ e. rw (e .3) (among-put s (e .0) (e .1) (e .2) b)) (step s b a)
 
-  step-agrees : (s : List ℕ) (p : ℕ) → Between from to s → {c : Call} → Allowed from s c → Agrees from p s → Agrees from p (call c s .state)
-  step-agrees s p b a h = ⊎-elim (λ e. rw e h) (λ e. rw (e .2) (agrees-kept from s p (e .0) (e .1) (b .size) h)) (step s b a)
+  step-agrees : (s : List ℕ) (p : ℕ) → isDerived (roleOf p) ≡ false → Among s → {c : Call} → Allowed from s c → Agrees from p s → Agrees from p (call c s .state)
+  step-agrees s p core b a h = ⊎-elim (λ e. rw e h) (λ e. rw (e .3) (agrees-with from _ p core (agrees-kept from s p (e .0) (e .1) (b .between .size) h))) (step s b a)
 
-  between-after : (cs : List Call) (s : List ℕ) → Restoring from s cs → Between from to s → Between from to (after cs s)
+  among-after : (cs : List Call) (s : List ℕ) → Restoring from s cs → Among s → Among (after cs s)
   unfolding after
-  between-after [] s r b = b
-  between-after (c ∷ cs) s (one a r) b = between-after cs (call c s .state) r (step-between s b a)
+  among-after [] s r b = b
+  among-after (c ∷ cs) s (one a r) b = among-after cs (call c s .state) r (step-among s b a)
 
-  agrees-after : (cs : List Call) (s : List ℕ) (p : ℕ) → Restoring from s cs → Between from to s → Agrees from p s → Agrees from p (after cs s)
+  agrees-after : (cs : List Call) (s : List ℕ) (p : ℕ) → isDerived (roleOf p) ≡ false → Restoring from s cs → Among s → Agrees from p s → Agrees from p (after cs s)
   unfolding after
-  agrees-after [] s p r b h = h
-  agrees-after (c ∷ cs) s p (one a r) b h = agrees-after cs (call c s .state) p r (step-between s b a) (step-agrees s p b a h)
+  agrees-after [] s p core r b h = h
+  agrees-after (c ∷ cs) s p core (one a r) b h = agrees-after cs (call c s .state) p core r (step-among s b a) (step-agrees s p core b a h)
 
   -- after its put, a listed attribute's word is the first device's
-  put-agrees : (cs : List Call) (s : List ℕ) → Restoring from s cs → Between from to s → {a : Attribute} {c : Call} (l : Listed from a) → Put from a c
+  put-agrees : (cs : List Call) (s : List ℕ) → Restoring from s cs → Among s → {a : Attribute} {c : Call} (l : Listed from a) → Put from a c
       → List·Memᴰ c cs → Agrees from (placeOf l) (after cs s)
   unfolding after
   put-agrees [] s r b l p m = absurd (List·Memᴰ·not-nil m)
   put-agrees (d ∷ cs) s (one x r) b {a} l p (List·Memᴰ·head e) =
-      agrees-after cs (call d s .state) (placeOf l) r (step-between s b x) (rw (here .state) (agrees-put from s (placeOf l) (place-inside from rf l) (b .size)))
+      agrees-after cs (call d s .state) (placeOf l) (place-core from rf l) r (step-among s b x)
+      (rw (here .state) (agrees-with from _ (placeOf l) (place-core from rf l) (agrees-put from s (placeOf l) (place-inside from rf l) (b .between .size))))
     where
       here : Stores d s (placeOf l)
       here = put-stores s b l (subst (Put from a) e p)
-  put-agrees (d ∷ cs) s (one x r) b l p (List·Memᴰ·tail m) = put-agrees cs (call d s .state) r (step-between s b x) l p m
+  put-agrees (d ∷ cs) s (one x r) b l p (List·Memᴰ·tail m) = put-agrees cs (call d s .state) r (step-among s b x) l p m
 
-  -- a state between the two in which every listed word is the first device's is the first device's
-  pub all-agree : (t : List ℕ) → Between from to t → ((a : Attribute) (l : Listed from a) → word t (placeOf l) ≡ word from (placeOf l)) → t ≡ from
+  -- a state between the two in which every listed word is the first device's is, with its derived words, the first device's
+  pub all-agree : (t : List ℕ) → Between from to t → ((a : Attribute) (l : Listed from a) → word t (placeOf l) ≡ word from (placeOf l)) → withDerived t ≡ from
   unfolding Owned
   all-agree t b h =
-      ext-getD 0 t from (b .size ∙ sym (rf .size)) (λ p l.
-      ⊎-elim (λ o. rw (o .2) at (h (o .0) (o .1))) (λ e. e) (each-owned from t rf (mixed-ready from to t rf rt same b) (mixed-alike from to t rf rt same b) idle p (omega (arith, b .size))))
+      core-decides from (withDerived t) (hf .is-sound) (with-sound t (ready-is-sound t rm)) (λ p l core. with-word t p core
+      ∙ ⊎-elim (λ o. rw (o .2) at (h (o .0) (o .1))) (λ e. e) (each-owned from t rf rm (mixed-alike from to rf rt same t b) idle p l core))
     where
-      stop : Stopped t
-      stop = mixed-stopped from to t rf rt same b hf (fresh-stopped to ht)
+      rm : Ready t
+      rm = mixed-ready from to rf rt same t b
 
       idle : (v : ℕ) → v < vcpus from → running t v ≡ running from v
       idle v l =
-          stopped-running t (stop .is-stopped) v (rw (mixed-alike from to t rf rt same b .same-number) l) ∙ sym (stopped-running from (hf .is-stopped) v l)
+          let m = mixed-resting from to rf rt same t b (stopped-resting from hf) (stopped-resting to (fresh-stopped to ht)) in
+          m .idle v (rw (mixed-alike from to rf rt same t b .same-number) l) ∙ sym (stopped-running from (hf .is-stopped) v l)
 
-  start : Between from to to
-  start = between-start from to (rt .size)
+  start : Among to
+  start = record { between = start-between from to rf rt same; is-sound = ht .is-sound }
 
   -- the calls before one of the list
-  before-one : (before rest : List Call) (s : List ℕ) → Restoring from s (before ++ rest) → Between from to s → Between from to (after before s)
+  before-one : (before rest : List Call) (s : List ℕ) → Restoring from s (before ++ rest) → Among s → Among (after before s)
   unfolding after
   before-one [] rest s r b = b
-  before-one (c ∷ before) rest s (one a r) b = before-one before rest (call c s .state) r (step-between s b a)
+  before-one (c ∷ before) rest s (one a r) b = before-one before rest (call c s .state) r (step-among s b a)
 
   pub by-attributes : (cs : List Call) → Restoring from to cs → Whole from cs → ByAttributes from to cs
   unfolding Agrees
@@ -220,4 +237,6 @@ module _ (from to : List ℕ) (hf : Stopped from) (ht : Fresh to) (same : Alike 
   }
     where
       equal : after cs to ≡ from
-      equal = all-agree (after cs to) (between-after cs to r start) (λ a l. let p = w .put-each a (member from rf l) in put-agrees cs to r start l (p .1) (p .2))
+      equal =
+          let m = among-after cs to r start in
+          sym (sound-with _ (m .is-sound)) ∙ all-agree (after cs to) (m .between) (λ a l. let p = w .put-each a (member from rf l) in put-agrees cs to r start l (p .1) (p .2))

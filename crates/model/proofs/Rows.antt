@@ -4,16 +4,18 @@ use mathlib.Core.Bool.{Bool, true, false, _&&_}
 use mathlib.Core.List.{List, [], _∷_}
 use lib.Dec.{eqb}
 use lib.IntN.{ℤ, pos, negsuc}
-use Rattle.model.specs.Words.{bit, gather, withBit, within, lowest, allBelow, every, each}
+use lib.ListN.{getD}
+use Rattle.model.specs.Words.{bit, gather, withBit, within, masked, lowest, allBelow, every, each}
+use Rattle.model.specs.Roles.{withDerived, derivedOk}
 use Rattle.model.specs.Interrupts.{isPrivate, isPpi, isSpi, exists, pending, setFlag}
-use Rattle.model.specs.Sound.{entry, usedBits, freshBits, allowedBits, fits, wordOk, isCount, setup, isAffinity, unused, vcpuOk, sound, stopped, fresh}
+use Rattle.model.specs.Sound.{entry, usedBits, freshBits, allowedBits, fits, wordOk, isCount, setup, isAffinity, unused, vcpuOk, core, sound, stopped, fresh}
 use Rattle.model.specs.Refusals.{errno, number, firstFailing}
 use Rattle.model.specs.Registers.{inRow, decode, rows, flags, shownTo, ruleFor, shows, flagAfter, has, seenBy, readFlags, readPriority, readConfig, readRoute, statusAt, frameTyper, read, writeFlags, writePriority, writeConfig, writeRoute, writtenStatus, write, access, byByte, readAccess, writeAccess, guestRead, guestWrite}
 use Rattle.model.specs.Lines.{latches, lineChanged}
 use Rattle.model.specs.Interface.{systemIn, system, plainRead, plainWrite, plainTakes, ownOrRouted, groupOn, candidate, rank, better, scan, best, clearedBits, groupPriority, runningLevel, runningPriority, ofGroup, gives, offered, levelOf, setLevel, taken, levelClear, acknowledged, highestPending, signal, dropped, ended, deactivated, named, targets, reaches, sgiSent, systemRead, systemReadNext, systemReadClear, systemWrite}
 use Rattle.model.specs.Attributes.{groupOf, indexOf, numberOk, affinityKnown, mappedItem, mapped, systemItem, item, known, registerTakes, takes, itemRead, itemWrite, itemIn, itemOf}
 use Rattle.model.specs.Record.{groupsOf, encode, more, readGroups, decodeNumber, ofSpiWord, ofRoute, ofVcpuBlock, listed, entries, entryRead, entryBytes, recordOf, saved, readable, entryPut, taking, load, restored, faults, loadedState}
-use Rattle.model.specs.Calls.{Call, call, lentTo, acceptable, guestChecks, frameChecks, readChecks, writeChecks, hasLine, registerChecks, getChecks, setChecks, checks, refusal, systemValue, getValue, value, made, vcpuAdded, initialisedNext, systemReadState, systemWriteState, setState, next, lentBytes, filled, settle, frontOf, handedBack, after, trace}
+use Rattle.model.specs.Calls.{Call, call, guestChecks, frameChecks, readPhase, readChecks, writeChecks, hasLine, registerChecks, getChecks, setChecks, refusal, systemValue, getValue, made, vcpuAdded, initialisedNext, systemReadState, systemWriteState, setState, settle, frontOf, handedBack, after, trace, describe}
 
 -- the first call of a row is made on the state that the test is given; each other gets the state that the last one left
 pub data Row : Type 0 where
@@ -47,10 +49,10 @@ answered (c ∷ cs) [] s = false
 answered (c ∷ cs) (r ∷ rs) s = let o = call c s in sameNumber (o .answer) r && answered cs rs (o .state)
 
 unfoldable pub meets : List ℕ → Row → Bool
-unfolding sameNumber sameWords answered bit gather withBit within lowest allBelow every each isPrivate isPpi isSpi exists pending setFlag entry usedBits freshBits allowedBits fits wordOk isCount setup isAffinity unused vcpuOk sound stopped fresh errno number firstFailing inRow decode rows flags shownTo ruleFor shows flagAfter has seenBy readFlags readPriority readConfig readRoute statusAt frameTyper read writeFlags writePriority writeConfig writeRoute writtenStatus write access byByte readAccess writeAccess guestRead guestWrite latches lineChanged systemIn system plainRead plainWrite plainTakes ownOrRouted groupOn candidate rank better scan best clearedBits groupPriority runningLevel runningPriority ofGroup gives offered levelOf setLevel taken levelClear acknowledged highestPending signal dropped ended deactivated named targets reaches sgiSent systemRead systemReadNext systemReadClear systemWrite groupOf indexOf numberOk affinityKnown mappedItem mapped systemItem item known registerTakes takes itemRead itemWrite itemIn itemOf groupsOf encode more readGroups decodeNumber ofSpiWord ofRoute ofVcpuBlock listed entries entryRead entryBytes recordOf saved readable entryPut taking load restored faults loadedState call lentTo acceptable guestChecks frameChecks readChecks writeChecks hasLine registerChecks getChecks setChecks checks refusal systemValue getValue value made vcpuAdded initialisedNext systemReadState systemWriteState setState next lentBytes filled settle frontOf handedBack after trace
+unfolding describe sameNumber sameWords answered bit gather withBit within masked lowest allBelow every each isPrivate isPpi isSpi exists pending setFlag entry usedBits freshBits allowedBits fits wordOk isCount setup isAffinity unused vcpuOk core sound stopped fresh withDerived derivedOk errno number firstFailing inRow decode rows flags shownTo ruleFor shows flagAfter has seenBy readFlags readPriority readConfig readRoute statusAt frameTyper read writeFlags writePriority writeConfig writeRoute writtenStatus write access byByte readAccess writeAccess guestRead guestWrite latches lineChanged systemIn system plainRead plainWrite plainTakes ownOrRouted groupOn candidate rank better scan best clearedBits groupPriority runningLevel runningPriority ofGroup gives offered levelOf setLevel taken levelClear acknowledged highestPending signal dropped ended deactivated named targets reaches sgiSent systemRead systemReadNext systemReadClear systemWrite groupOf indexOf numberOk affinityKnown mappedItem mapped systemItem item known registerTakes takes itemRead itemWrite itemIn itemOf groupsOf encode more readGroups decodeNumber ofSpiWord ofRoute ofVcpuBlock listed entries entryRead entryBytes recordOf saved readable entryPut taking load restored faults loadedState call guestChecks frameChecks readPhase readChecks writeChecks hasLine registerChecks getChecks setChecks refusal systemValue getValue made vcpuAdded initialisedNext systemReadState systemWriteState setState settle frontOf handedBack after trace
 meets s (answer cs rs) = answered cs rs s
 meets s (hands cs c bytes) = sameWords (handedBack (call c (after cs s))) bytes
-meets s (fills cs c bytes) = sameWords (call c (after cs s) .buffer) bytes
+meets s (fills cs c bytes) = sameWords (getD (call c (after cs s) .buffers) 0 []) bytes
 meets s (keeps cs c) = let t = after cs s in sameWords (call c t .state) t
 meets s (same xs ys) = sameWords xs ys
 

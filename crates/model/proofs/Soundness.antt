@@ -1,4 +1,4 @@
--- A sound state, part by part: its length, its set-up, each vCPU, each word.
+-- The core of a sound state, part by part: its length, its set-up, each vCPU, each word. Derived words are in proofs/Derived.
 use Prim.Native.Nat.{ℕ, _+_, _%_, _≤_, _<_}
 use mathlib.Core.Path.{_≡_, refl, _∙_}
 use mathlib.Core.Bool.{true, not, _&&_, _||_}
@@ -8,9 +8,11 @@ use native.Mathlib.Omega.{arith}
 use borrow.Author.Tests.{eqb-true, eq-eqb, leb-true, le-leb}
 use lib.Dec.{eqb, leb}
 use lib.ListN.{length}
+use Rattle.model.specs.Values.{edgeBits}
 use Rattle.model.specs.Words.{every, allBelow}
-use Rattle.model.specs.Layout.{stateLength, mostVcpus, word, initialised, count, vcpus, block, bprAt, sgiEdgesAt, affinity, running}
-use Rattle.model.specs.Sound.{fits, usedBits, freshBits, allowedBits, wordOk, isCount, setup, unused, vcpuOk, sound, stopped}
+use Rattle.model.specs.Layout.{stateLength, mostVcpus, word, initialised, count, vcpus, block, bprAt, bprField, edgeField, affinityField, sgiEdgesAt, affinity, running}
+use Rattle.model.specs.Roles.{derivedOk}
+use Rattle.model.specs.Sound.{fits, usedBits, freshBits, allowedBits, wordOk, isCount, setup, unused, vcpuOk, core, sound, stopped}
 use Rattle.model.specs.Demands.{Stopped}
 use Rattle.model.proofs.Tests.{both, and-true, either, or-right, every-at, every-all, below-at, below-all}
 
@@ -20,9 +22,9 @@ pub record Sound (s : List ℕ) : Type 0 where
   pub each-vcpu : (v : ℕ) → v < vcpus s → vcpuOk s v ≡ true
   pub each-word : (k : ℕ) → k < stateLength → wordOk (initialised s) (count s) (vcpus s) k (word s k) ≡ true
 
-pub open-sound : (s : List ℕ) → sound s ≡ true → Sound s
-unfolding sound
-open-sound s e =
+pub open-core : (s : List ℕ) → core s ≡ true → Sound s
+unfolding core
+open-core s e =
     let a = both (eqb (length s) stateLength) _ e in
     let b = both (setup (initialised s) (count s) (vcpus s)) (allBelow (vcpuOk s) (vcpus s) && every (wordOk (initialised s) (count s) (vcpus s)) 0 s) (a .1) in
     let c = both (allBelow (vcpuOk s) (vcpus s)) (every (wordOk (initialised s) (count s) (vcpus s)) 0 s) (b .1) in
@@ -34,14 +36,21 @@ open-sound s e =
       each-word = λ k h. every-at (wordOk (initialised s) (count s) (vcpus s)) s (c .1) k (omega arith);
     }
 
-pub close-sound : (s : List ℕ) → Sound s → sound s ≡ true
-unfolding sound
-close-sound s h =
+pub close-core : (s : List ℕ) → Sound s → core s ≡ true
+unfolding core
+close-core s h =
     let l = h .size in
     and-true (eq-eqb _ _ (h .size))
     (and-true (h .set-up)
     (and-true (below-all (vcpuOk s) (vcpus s) (h .each-vcpu))
     (every-all (wordOk (initialised s) (count s) (vcpus s)) s (λ k q. h .each-word k (omega arith)))))
+
+pub sound-core : (s : List ℕ) → sound s ≡ true → core s ≡ true
+unfolding sound
+sound-core s e = both (core s) (derivedOk s) e .0
+
+pub open-sound : (s : List ℕ) → sound s ≡ true → Sound s
+open-sound s e = open-core s (sound-core s e)
 
 -- a sound state has the right length
 pub sound-length : (s : List ℕ) → sound s ≡ true → length s ≡ stateLength
@@ -120,9 +129,8 @@ pub record Ready (s : List ℕ) : Type 0 where
   pub each-vcpu : (v : ℕ) → v < vcpus s → vcpuOk s v ≡ true
   pub used : (k : ℕ) → k < stateLength → fits (word s k) (usedBits (count s) (vcpus s) k) ≡ true
 
-pub ready : (s : List ℕ) → sound s ≡ true → initialised s ≡ 1 → Ready s
-ready s e i =
-    let h = open-sound s e in
+pub core-ready : (s : List ℕ) → Sound s → initialised s ≡ 1 → Ready s
+core-ready s h i =
     record {
       size = h .size;
       mark = i;
@@ -132,6 +140,9 @@ ready s e i =
       each-vcpu = h .each-vcpu;
       used = λ k l. rw (word-used s i k (word s k)) at (h .each-word k l);
     }
+
+pub ready : (s : List ℕ) → sound s ≡ true → initialised s ≡ 1 → Ready s
+ready s e i = core-ready s (open-sound s e) i
 
 -- ---- a stopped one
 
@@ -147,7 +158,7 @@ stopped-running s e v l =
 -- ---- what a vCPU has
 
 pub record Vcpu (s : List ℕ) (v : ℕ) : Type 0 where
-  pub edges : word s (sgiEdgesAt v) ≡ 0xffff
+  pub edges : word s (sgiEdgesAt v) ≡ edgeBits
   pub bpr0 : 2 ≤ word s (bprAt v 0)
   pub bpr1 : 3 ≤ word s (bprAt v 1)
   pub distinct : (u : ℕ) → u < v → not (eqb (affinity s u) (affinity s v)) ≡ true
@@ -176,10 +187,10 @@ pub vcpu-kept : (s t : List ℕ) (v : ℕ) → ((u j : ℕ) → u ≤ v → j < 
 vcpu-kept s t v same e =
     let h = open-vcpu s v e in
     close-vcpu t v (record {
-      edges = same v 13 (omega arith) (omega arith) ∙ h .edges;
-      bpr0 = rw (same v 21 (omega arith) (omega arith)) (h .bpr0);
-      bpr1 = rw (same v 22 (omega arith) (omega arith)) (h .bpr1);
-      distinct = λ u l. rw (same u 16 (omega arith) (omega arith), same v 16 (omega arith) (omega arith)) (h .distinct u l);
+      edges = same v edgeField (omega arith) (omega arith) ∙ h .edges;
+      bpr0 = rw (same v (bprField 0) (omega arith) (omega arith)) (h .bpr0);
+      bpr1 = rw (same v (bprField 1) (omega arith) (omega arith)) (h .bpr1);
+      distinct = λ u l. rw (same u affinityField (omega arith) (omega arith), same v affinityField (omega arith) (omega arith)) (h .distinct u l);
     })
 
 -- ---- and back: such numbers and words make a sound state
@@ -188,15 +199,14 @@ pub count-is : (c : ℕ) → Count c → isCount c ≡ true
 unfolding isCount
 count-is c h = and-true (and-true (le-leb 64 c (h .least)) (le-leb c 1024 (h .most))) (eq-eqb (c % 32) 0 (h .step))
 
-pub ready-sound : (s : List ℕ) → Ready s → sound s ≡ true
+pub ready-is-sound : (s : List ℕ) → Ready s → Sound s
 unfolding setup
-ready-sound s h =
-    close-sound s (record {
-      size = h .size;
-      set-up = rw (h .mark, count-is (count s) (h .counted), le-leb (vcpus s) 8 (h .few), le-leb 1 (vcpus s) (h .some)) (and-true (or-right (eqb (count s) 0) refl) refl);
-      each-vcpu = h .each-vcpu;
-      each-word = λ k l. rw (word-used s (h .mark) k (word s k)) (h .used k l);
-    })
+ready-is-sound s h = record {
+  size = h .size;
+  set-up = rw (h .mark, count-is (count s) (h .counted), le-leb (vcpus s) 8 (h .few), le-leb 1 (vcpus s) (h .some)) (and-true (or-right (eqb (count s) 0) refl) refl);
+  each-vcpu = h .each-vcpu;
+  each-word = λ k l. rw (word-used s (h .mark) k (word s k)) (h .used k l);
+}
 
 pub running-stopped : (s : List ℕ) → initialised s ≡ 1 → ((v : ℕ) → v < vcpus s → running s v ≡ 0) → stopped s ≡ true
 unfolding stopped
@@ -204,3 +214,14 @@ running-stopped s i h = and-true (eq-eqb (initialised s) 1 i) (below-all (λ v. 
 
 pub stopped-ready : (s : List ℕ) → Stopped s → Ready s
 stopped-ready s h = ready s (h .is-sound) (stopped-mark s (h .is-stopped))
+
+-- the core of a stopped device
+pub record Resting (s : List ℕ) : Type 0 where
+  pub is-ready : Ready s
+  pub idle : (v : ℕ) → v < vcpus s → running s v ≡ 0
+
+pub stopped-resting : (s : List ℕ) → Stopped s → Resting s
+stopped-resting s h = record { is-ready = stopped-ready s h; idle = stopped-running s (h .is-stopped) }
+
+pub resting-stopped : (s : List ℕ) → Resting s → stopped s ≡ true
+resting-stopped s h = running-stopped s (h .is-ready .mark) (h .idle)

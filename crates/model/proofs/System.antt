@@ -8,13 +8,18 @@ use native.Mathlib.Omega.{arith}
 use native.Mathlib.Decide.{decLt}
 use borrow.Author.Tests.{lt-ltb, ltb-true}
 use lib.ListN.{getD, set}
+use Rattle.model.specs.Values.{iccCtlrBits, pmrBits}
 use Rattle.model.specs.Words.{bit, within, withBit, allBelow}
-use Rattle.model.specs.Layout.{word, count, vcpus, block, pmrAt, ctlrAt, bprAt, aprAt, igrpenAt, latchField, activeField}
+use Rattle.model.specs.Layout.{word, count, vcpus, block, pmrField, pmrAt, ctlrField, ctlrAt, bprField, aprField, igrpenField, bprAt, aprAt, igrpenAt, latchField, activeField}
 use Rattle.model.specs.Interrupts.{isPrivate, isSpi, exists, setFlag}
 use Rattle.model.specs.Sound.{fits, blockBits}
 use Rattle.model.specs.Interface.{plainGroup, readGroup, writeGroup, groupIn, plainWrite, rank, nothing, rankId, best, runningLevel, gives, offered, levelOf, setLevel, taken, acknowledged, eoiMode, dropped, ended, deactivated, sgiId, reaches, sgiSent, idOf, systemReadNext, systemWrite}
+use Rattle.model.specs.Registers.{seenBy}
 use Rattle.model.specs.Attributes.{systemItem, itemWrite}
 use Rattle.model.specs.Calls.{systemReadState, systemWriteState}
+use Rattle.model.specs.declared.By.{By}
+use Rattle.model.specs.declared.By.the-variants.{Guest, Attribute}
+use Rattle.model.specs.declared.View.the-variants.{Frame}
 use Rattle.model.specs.declared.Plain.{Plain}
 use Rattle.model.specs.declared.Plain.the-variants.{Pmr, Bpr, Apr, Ctlr, Sre, Igrpen}
 use Rattle.model.specs.declared.Readable.{Readable}
@@ -25,35 +30,30 @@ use Rattle.model.specs.declared.SystemRegister.{SystemRegister}
 use Rattle.model.specs.declared.SystemRegister.the-variants.{Both, Read, Write, Unnamed}
 use Rattle.model.proofs.Tests.{both, either, below-at}
 use Rattle.model.proofs.Bits.{gather-lt}
-use Rattle.model.proofs.Soundness.{Sound, Ready}
+use Rattle.model.proofs.Within.{masked-fits}
+use Rattle.model.proofs.Soundness.{Sound, Ready, ready-is-sound}
 use Rattle.model.proofs.Best.{best-found, rank-id, rank-below}
 use Rattle.model.proofs.Fields.{within-spi}
 use Rattle.model.proofs.Stores.{Free}
-use Rattle.model.proofs.Writes.{low-fits, Leaves, Present, own, shared, ready-is-sound, leaves-sound, leaves-ready, leaves-number, leaves-present, stores-block, stores-no-line, latched}
+use Rattle.model.proofs.Writes.{low-fits, Leaves, Present, own, shared, leaves-sound, leaves-ready, leaves-number, leaves-present, stores-block, stores-no-line, latched}
 
--- the bits of PMR and of CTLR
-pmr-fits : (x : ℕ) → fits (x % 256 / 8 * 8) 0xf8 ≡ true
-pmr-fits x = below-at (λ u. fits (u * 8) 0xf8) 32 test (x % 256 / 8) (omega arith)
+-- the bits of PMR
+pmr-fits : (x : ℕ) → fits (x % 256 / 8 * 8) pmrBits ≡ true
+pmr-fits x = below-at (λ u. fits (u * 8) pmrBits) 32 test (x % 256 / 8) (omega arith)
   where
-    test : allBelow (λ u. fits (u * 8) 0xf8) 32 ≡ true
-    test = unfold allBelow fits within in refl
-
-ctlr-fits : (x : ℕ) → fits (x / 2 % 2 * 2) 2 ≡ true
-ctlr-fits x = below-at (λ u. fits (u * 2) 2) 2 test (x / 2 % 2) (omega arith)
-  where
-    test : allBelow (λ u. fits (u * 2) 2) 2 ≡ true
+    test : allBelow (λ u. fits (u * 8) pmrBits) 32 ≡ true
     test = unfold allBelow fits within in refl
 
 module _ (s : List ℕ) (h : Ready s) where
   -- ---- the words of a vCPU's interface
 
-  pub stores-pmr : (v x : ℕ) → v < vcpus s → Leaves s (pmrAt v) (plainWrite s v Pmr x)
+  pub stores-pmr : (by : By) (v x : ℕ) → v < vcpus s → Leaves s (pmrAt v) (plainWrite by s v Pmr x)
   unfolding plainWrite
-  stores-pmr v x l = stores-block s h v 19 _ l (omega arith) (omega arith) (pmr-fits x)
+  stores-pmr by v x l = stores-block s h v pmrField _ l (omega arith) (omega arith) (pmr-fits x)
 
-  pub stores-ctlr : (v x : ℕ) → v < vcpus s → Leaves s (ctlrAt v) (plainWrite s v Ctlr x)
+  pub stores-ctlr : (by : By) (v x : ℕ) → v < vcpus s → Leaves s (ctlrAt v) (plainWrite by s v Ctlr x)
   unfolding plainWrite
-  stores-ctlr v x l = stores-block s h v 20 _ l (omega arith) (omega arith) (ctlr-fits x)
+  stores-ctlr by v x l = stores-block s h v ctlrField _ l (omega arith) (omega arith) (masked-fits iccCtlrBits x)
 
   -- n bits, at word j of the block for group 0 and at the next for group 1
   stores-grouped : (v j n g w : ℕ) → v < vcpus s → g < 2 → allBelow (λ i. allBelow (bit (getD blockBits (j + i) 0)) n) 2 ≡ true → 18 ≤ j → Free (j + g) w
@@ -61,21 +61,21 @@ module _ (s : List ℕ) (h : Ready s) where
   stores-grouped v j n g w l m e a b k =
       stores-block s h v (j + g) w l (omega arith) b (low-fits n w (getD blockBits (j + g) 0) k (below-at (λ i. allBelow (bit (getD blockBits (j + i) 0)) n) 2 e g m))
 
-  pub stores-bpr : (v g x : ℕ) → v < vcpus s → g < 2 → Leaves s (bprAt v g) (plainWrite s v (Bpr g) x)
+  pub stores-bpr : (by : By) (v g x : ℕ) → v < vcpus s → g < 2 → Leaves s (bprAt v g) (plainWrite by s v (Bpr g) x)
   unfolding plainWrite
-  stores-bpr v g x l m = stores-grouped v 21 3 g _ l m (unfold allBelow bit in refl) (omega arith) (omega arith) (omega arith)
+  stores-bpr by v g x l m = stores-grouped v (bprField 0) 3 g _ l m (unfold allBelow bit in refl) (omega arith) (omega arith) (omega arith)
 
   -- an AP word has any 32 bits
   stores-active-priorities : (v g w : ℕ) → v < vcpus s → g < 2 → w < 2 ^ 32 → Leaves s (aprAt v g) (set s (aprAt v g) w)
-  stores-active-priorities v g w l m k = stores-grouped v 23 32 g w l m (unfold allBelow bit in refl) (omega arith) (omega arith) (omega arith)
+  stores-active-priorities v g w l m k = stores-grouped v (aprField 0) 32 g w l m (unfold allBelow bit in refl) (omega arith) (omega arith) (omega arith)
 
-  pub stores-apr : (v g x : ℕ) → v < vcpus s → g < 2 → Leaves s (aprAt v g) (plainWrite s v (Apr g) x)
+  pub stores-apr : (by : By) (v g x : ℕ) → v < vcpus s → g < 2 → Leaves s (aprAt v g) (plainWrite by s v (Apr g) x)
   unfolding plainWrite
-  stores-apr v g x l m = stores-active-priorities v g (x % 2 ^ 32) l m (omega arith)
+  stores-apr by v g x l m = stores-active-priorities v g (x % 2 ^ 32) l m (omega arith)
 
-  pub stores-igrpen : (v g x : ℕ) → v < vcpus s → g < 2 → Leaves s (igrpenAt v g) (plainWrite s v (Igrpen g) x)
+  pub stores-igrpen : (by : By) (v g x : ℕ) → v < vcpus s → g < 2 → Leaves s (igrpenAt v g) (plainWrite by s v (Igrpen g) x)
   unfolding plainWrite
-  stores-igrpen v g x l m = stores-grouped v 25 1 g _ l m (unfold allBelow bit in refl) (omega arith) (omega arith) (omega arith)
+  stores-igrpen by v g x l m = stores-grouped v (igrpenField 0) 1 g _ l m (unfold allBelow bit in refl) (omega arith) (omega arith) (omega arith)
 
   stores-level : (t : Bool) (v g level : ℕ) → v < vcpus s → g < 2 → Leaves s (aprAt v g) (setLevel t v g level s)
   unfolding setLevel withBit
@@ -93,13 +93,13 @@ module _ (s : List ℕ) (h : Ready s) where
 module _ (s : List ℕ) (h : Ready s) (v : ℕ) (l : v < vcpus s) where
   -- ---- writing a plain register
 
-  plain-sound : (p : Plain) (x : ℕ) → plainGroup p < 2 → Sound (plainWrite s v p x)
-  plain-sound Pmr x m = leaves-sound s h (stores-pmr s h v x l)
-  plain-sound (Bpr g) x m = leaves-sound s h (stores-bpr s h v g x l m)
-  plain-sound (Apr g) x m = leaves-sound s h (stores-apr s h v g x l m)
-  plain-sound Ctlr x m = leaves-sound s h (stores-ctlr s h v x l)
-  plain-sound Sre x m = unfold plainWrite in (ready-is-sound s h)
-  plain-sound (Igrpen g) x m = leaves-sound s h (stores-igrpen s h v g x l m)
+  plain-sound : (by : By) (p : Plain) (x : ℕ) → plainGroup p < 2 → Sound (plainWrite by s v p x)
+  plain-sound by Pmr x m = leaves-sound s h (stores-pmr s h by v x l)
+  plain-sound by (Bpr g) x m = leaves-sound s h (stores-bpr s h by v g x l m)
+  plain-sound by (Apr g) x m = leaves-sound s h (stores-apr s h by v g x l m)
+  plain-sound by Ctlr x m = leaves-sound s h (stores-ctlr s h by v x l)
+  plain-sound by Sre x m = unfold plainWrite in (ready-is-sound s h)
+  plain-sound by (Igrpen g) x m = leaves-sound s h (stores-igrpen s h by v g x l m)
 
   -- ---- acknowledge: made active, its latch cleared, a bit set in APgR
 
@@ -200,16 +200,16 @@ module _ (s : List ℕ) (h : Ready s) (v : ℕ) (l : v < vcpus s) where
 
   pub write-state-sound : (r : SystemRegister) (x : ℕ) → groupIn r < 2 → Sound (systemWriteState r v x s)
   unfolding systemWriteState
-  write-state-sound (Both p) x m = plain-sound p x m
+  write-state-sound (Both p) x m = plain-sound Guest p x m
   write-state-sound (Read r) x m = ready-is-sound s h
   write-state-sound (Write w) x m = writable-sound w x m
   write-state-sound Unnamed x m = ready-is-sound s h
 
   -- ---- a set of group 6
 
-  pub system-item-sound : (r : SystemRegister) (x : ℕ) → groupIn r < 2 → Sound (itemWrite s (systemItem v r) x)
-  unfolding systemItem itemWrite
-  system-item-sound (Both p) x m = plain-sound p x m
+  pub system-item-sound : (r : SystemRegister) (x : ℕ) → groupIn r < 2 → Sound (itemWrite s (systemItem (Frame v) r) x)
+  unfolding systemItem itemWrite seenBy
+  system-item-sound (Both p) x m = plain-sound Attribute p x m
   system-item-sound (Read r) x m = ready-is-sound s h
   system-item-sound (Write w) x m = ready-is-sound s h
   system-item-sound Unnamed x m = ready-is-sound s h

@@ -1,16 +1,17 @@
 -- Laws of `within` and `fits`: a word within a mask has a bit only where the mask has.
 use Prim.Native.Nat.{ℕ, zero, suc, _/_, _%_, _^_, _≤_, _<_}
 use mathlib.Core.Path.{_≡_, refl, sym, ap, _∙_}
-use mathlib.Core.Bool.{Bool, true, false, _||_}
+use mathlib.Core.Bool.{Bool, true, false, _||_, _&&_}
 use native.Mathlib.Nat.{div-one, pow-suc}
 use native.Mathlib.Numerals.{one-add}
 use native.Mathlib.Omega.{arith}
 use borrow.Author.Tests.{eqb-true, eq-eqb, leb-true, le-leb}
 use lib.Dec.{eqb, leb}
 use lib.Pow.{shr-shr}
-use Rattle.model.specs.Words.{bit, within}
+use Rattle.model.specs.Words.{bit, within, masked}
 use Rattle.model.specs.Sound.{fits}
 use Rattle.model.proofs.Tests.{both, and-true}
+use Rattle.model.proofs.Bits.{gather-lt, bit-gather}
 
 -- ---- the lowest bit and the others
 
@@ -97,6 +98,10 @@ fits-bit w m i e b = within-bit 32 w m i (sym (fits-within w m) ∙ e) b
 
 pub bits-fit : (w m : ℕ) → w < 2 ^ 32 → ((i : ℕ) → i < 32 → bit w i ≡ true → bit m i ≡ true) → fits w m ≡ true
 bits-fit w m l h = fits-within w m ∙ bits-within 32 w m l h
+
+pub masked-fits : (m w : ℕ) → fits (masked m w) m ≡ true
+unfolding masked
+masked-fits m w = bits-fit _ m (gather-lt 32 _) (λ i l e. both (bit m i) (bit w i) (sym (bit-gather 32 (λ j. bit m j && bit w j) i l) ∙ e) .0)
 
 -- no bit may stand there: the word is 0
 pub fits-none : (w : ℕ) → fits w 0 ≡ true → w ≡ 0

@@ -10,7 +10,7 @@ use lib.Dec.{eqb, ltb, leb}
 use lib.ListN.{getD, set}
 use lib.Pow.{pow-mono}
 use Rattle.model.specs.Words.{bit, gather, withBit, allBelow}
-use Rattle.model.specs.Layout.{stateLength, word, count, vcpus, block, runningAt, bank, latchField, lineField, routeAt}
+use Rattle.model.specs.Layout.{stateLength, word, count, vcpus, block, runningAt, bank, latchField, lineField, routeAt, edgeField}
 use Rattle.model.specs.Interrupts.{isPrivate, isPpi, isSpi, flag, edge, priority, setFlag}
 use Rattle.model.specs.Sound.{fits, usedBits, blockBits, bankBits, lastBankBits}
 use Rattle.model.specs.Registers.{has, seenBy, flagAfter, writeFlags, writePriority, writeConfig, writeRoute, write, flags, ruleFor, writtenStatus, statusAt, banks, wordsOf, decode, rows}
@@ -29,7 +29,8 @@ use Rattle.model.specs.declared.Decoded.the-variants.{Listed}
 use Rattle.model.proofs.Bits.{gather-lt, bit-gather, bit-below, word-is}
 use Rattle.model.proofs.Tests.{both, below-at}
 use Rattle.model.proofs.Within.{fits-bit, fits-le, bits-fit}
-use Rattle.model.proofs.Soundness.{Sound, open-sound, Ready, ready-sound, word-used}
+use Rattle.model.proofs.Soundness.{Sound, Ready, ready-is-sound, word-used}
+use Rattle.model.proofs.Roles.{block-free}
 use Rattle.model.proofs.Decode.{decode-words, config-view}
 use Rattle.model.proofs.Masks.{route-bits, header-bits, block-is, block-word, bank-is}
 use Rattle.model.proofs.Fields.{spi-within, banks-most, bank-at, flag-bit, priority-bit, edge-bit}
@@ -110,23 +111,20 @@ pub data Present (s : List ℕ) (v id : ℕ) : Type 0 where
   shared : isSpi s id ≡ true → Present s v id
 
 module _ (s : List ℕ) (h : Ready s) where
-  pub ready-is-sound : Sound s
-  ready-is-sound = open-sound s (ready-sound s h)
-
   pub leaves-sound : {p : ℕ} {t : List ℕ} → Leaves s p t → Sound t
-  leaves-sound {p} l = rw (l .state) (store-sound s p (l .stored) (l .may) ready-is-sound)
+  leaves-sound {p} l = rw (l .state) (store-sound s p (l .stored) (h .few) (l .may) (ready-is-sound s h))
 
   pub leaves-ready : {p : ℕ} {t : List ℕ} → Leaves s p t → Ready t
-  leaves-ready {p} l = rw (l .state) (store-ready s p (l .stored) (l .may) h)
+  leaves-ready {p} l = rw (l .state) (store-ready s p (l .stored) (h .few) (l .may) h)
 
   -- as many vCPUs, and an interrupt that is there stays there
   pub leaves-number : {p : ℕ} {t : List ℕ} → Leaves s p t → vcpus t ≡ vcpus s
-  leaves-number {p} l = rw (l .state) (store-same s p (l .stored) (l .may) .alike .same-number)
+  leaves-number {p} l = rw (l .state) (store-same s p (l .stored) (h .few) (l .may) .alike .same-number)
 
   pub leaves-present : {p : ℕ} {t : List ℕ} (v id : ℕ) → Leaves s p t → Present s v id → Present t v id
   unfolding isSpi
   leaves-present {p} v id l (own m n) = own (rw (leaves-number l) m) n
-  leaves-present {p} v id l (shared e) = shared (rw (l .state, store-same s p (l .stored) (l .may) .alike .same-count) e)
+  leaves-present {p} v id l (shared e) = shared (rw (l .state, store-same s p (l .stored) (h .few) (l .may) .alike .same-count) e)
 
   -- ---- a place where every word that fits may be stored
 
@@ -282,7 +280,7 @@ module _ (s : List ℕ) (h : Ready s) where
       record {
         stored = word s (block 0 + (13 + j));
         state = rw (d, r, q) (ap (set s (block 0 + (13 + j))) (private-edges j m _ (λ i n. rw (not-spi (16 * (2 * 0 + j) + i) (omega arith)) (written-edge 0 j i m n))));
-        may = record { past = omega arith; inside = omega arith; no-affinity = λ v n e. omega arith; may = stands s ready-is-sound (block 0 + (13 + j)) (omega arith) };
+        may = record { inside = omega arith; free = block-free 0 (edgeField + j) (omega arith) (omega arith) (λ e. omega arith); may = stands s (ready-is-sound s h) (block 0 + (edgeField + j)) (omega arith) };
         idle = λ v n e. omega arith;
       }
   stores-config (suc w) j value l m =
@@ -359,22 +357,22 @@ module _ (s : List ℕ) (h : Ready s) where
       step true e =
           let a = view-has x (32 + k / 2) l (both (eqb (k % 2) 0) (has s x (32 + k / 2)) e .1) in
           unfold writeRoute in rw e (leaves-sound (stores-route (32 + k / 2) value (routed (omega arith) a)))
-      step false e = unfold writeRoute in rw e ready-is-sound
+      step false e = unfold writeRoute in rw e (ready-is-sound s h)
 
   -- any register; ICFGR in the distributor alone
   pub register-sound : (by : By) (x : View) (r : Register) (k value : ℕ) → seenBy x < vcpus s → k < wordsOf x r → (r ≡ Config → x ≡ Distributor) → Sound (write by s x r k value)
   unfolding write wordsOf banks
-  register-sound by x (Fixed c) k value l m d = ready-is-sound
+  register-sound by x (Fixed c) k value l m d = ready-is-sound s h
   register-sound by x Control k value l m d = leaves-sound (stores-enables value)
-  register-sound by x Typer k value l m d = ready-is-sound
-  register-sound by x Iidr k value l m d = ready-is-sound
+  register-sound by x Typer k value l m d = ready-is-sound s h
+  register-sound by x Iidr k value l m d = ready-is-sound s h
   register-sound by x Status k value l m d = leaves-sound (stores-status x _ l (status-small by (word s (statusAt x)) value))
   register-sound by x (Bits f) k value l m d = bits-sound by x f k value l m
   register-sound by x Priority k value l m d = priority-sound x (λ j. true) k value l m
   register-sound by x Config k value l m d = let b : 2 * banks x ≤ 64 = omega (arith, banks-most x) in rw (d refl) (config-sound k value (omega arith))
   register-sound by x Route k value l m d = route-sound x k value l
-  register-sound by x FrameTyper k value l m d = ready-is-sound
-  register-sound by x FrameAffinity k value l m d = ready-is-sound
+  register-sound by x FrameTyper k value l m d = ready-is-sound s h
+  register-sound by x FrameAffinity k value l m d = ready-is-sound s h
 
   -- any word that an offset of the view decodes to
   pub write-sound : (by : By) (x : View) (off : ℕ) (r : Register) (k value : ℕ) → seenBy x < vcpus s → decode (rows x) off ≡ Listed r k → Sound (write by s x r k value)

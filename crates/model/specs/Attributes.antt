@@ -5,7 +5,8 @@ use mathlib.Core.List.{List}
 use lib.Dec.{eqb, ltb}
 use Rattle.model.specs.Words.{lowest}
 use Rattle.model.specs.Layout.{vcpus, affinity}
-use Rattle.model.specs.Registers.{decode, rows, read, write, iidr}
+use Rattle.model.specs.Values.{iidr}
+use Rattle.model.specs.Registers.{decode, rows, read, write, seenBy}
 use Rattle.model.specs.Interface.{system, plainRead, plainWrite, plainTakes}
 use Rattle.model.specs.declared.By.the-variants as by
 use Rattle.model.specs.declared.View.{View}
@@ -75,22 +76,22 @@ mappedItem x Unlisted = Nameless
 unfoldable pub mapped : View → ℕ → Item
 mapped x off = cond (eqb (off % 4) 0) (mappedItem x (decode (rows x) off)) Nameless
 
--- group 6: bits 31-0 are the encoding; each listed one is below 2^16, so bits 31-16 not 0 is unknown
-unfoldable pub systemItem : ℕ → SystemRegister → Item
-systemItem v (Both p) = System v p
-systemItem v (Read r) = Nameless
-systemItem v (Write w) = Nameless
-systemItem v Unnamed = Nameless
+-- group 6: bits 31-0 are the encoding; each listed one is below 2^16, so bits 31-16 not 0 is unknown. The vCPU is named by the view of its frame
+unfoldable pub systemItem : View → SystemRegister → Item
+systemItem x (Both p) = System x p
+systemItem x (Read r) = Nameless
+systemItem x (Write w) = Nameless
+systemItem x Unnamed = Nameless
 
 unfoldable pub item : RegisterGroup → ℕ → List ℕ → Item
 item Distributor a s = mapped view.Distributor (low a)
 item Redistributor a s = mapped (view.Frame (indexOf s (high a))) (low a)
-item Interface a s = systemItem (indexOf s (high a)) (system (low a))
+item Interface a s = systemItem (view.Frame (indexOf s (high a))) (system (low a))
 item Lines a s = cond (ltb (low a) 32) (Mapped (view.Frame (indexOf s (high a))) (Bits flags.Lines) 0) (Mapped view.Distributor (Bits flags.Lines) (low a / 32))
 
 unfoldable pub known : Item → Bool
 known (Mapped x r k) = true
-known (System v p) = true
+known (System x p) = true
 known Nameless = false
 
 -- ---- values
@@ -112,17 +113,17 @@ registerTakes FrameAffinity x = true
 -- not above 2^32 - 1 in groups 1, 5, 7, nor an IIDR, CTLR or SRE value that is refused
 unfoldable pub takes : Item → ℕ → Bool
 takes (Mapped x r k) value = ltb value (2 ^ 32) && registerTakes r value
-takes (System v p) value = plainTakes p value
+takes (System x p) value = plainTakes p value
 takes Nameless value = true
 
 unfoldable pub itemRead : List ℕ → Item → ℕ
 itemRead s (Mapped x r k) = read by.Attribute s x r k
-itemRead s (System v p) = plainRead s v p
+itemRead s (System x p) = plainRead by.Attribute s (seenBy x) p
 itemRead s Nameless = 0
 
 unfoldable pub itemWrite : List ℕ → Item → ℕ → List ℕ
 itemWrite s (Mapped x r k) value = write by.Attribute s x r k value
-itemWrite s (System v p) value = plainWrite s v p value
+itemWrite s (System x p) value = plainWrite by.Attribute s (seenBy x) p value
 itemWrite s Nameless value = s
 
 -- ---- one attribute of the groups that name registers

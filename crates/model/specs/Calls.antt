@@ -1,12 +1,14 @@
--- The calls: for each its refusals in their order, and what it answers and leaves where none of them holds.
+-- The calls: each described in one place, by its tests in their order and what it answers and leaves where none of them fails.
 use Prim.Native.Nat.{ℕ, _+_}
 use mathlib.Core.Bool.{Bool, true, false, not, cond, _&&_, _||_}
 use mathlib.Core.List.{List, [], _∷_, _++_}
 use mathlib.Core.Path.{_≡_}
 use lib.Dec.{eqb, ltb, leb}
 use lib.IntN.{ℤ, pos, negsuc}
-use lib.ListN.{length, set, take, replicate}
+use lib.ListN.{length, getD, set, take, replicate}
+use Rattle.model.specs.Values.{edgeBits}
 use Rattle.model.specs.Words.{val}
+use Rattle.model.specs.Roles.{withDerived}
 use Rattle.model.specs.Layout.{stateLength, mostVcpus, initialisedAt, countAt, vcpusAt, isInitialised, count, vcpus, affinityAt, runningAt, running, bprAt, leastBpr, sgiEdgesAt}
 use Rattle.model.specs.Interrupts.{isPpi, isSpi}
 use Rattle.model.specs.Sound.{sound, stopped, fresh, isCount, isAffinity, unused}
@@ -20,7 +22,11 @@ use Rattle.model.specs.declared.Errno.the-variants.{Eperm, Eio, Enxio, E
 use Rattle.model.specs.declared.Refusal.{Refusal}
 use Rattle.model.specs.declared.Refusal.the-variants.{None, Refuse}
 use Rattle.model.specs.declared.Answer.the-variants.{Value, Refused}
+use Rattle.model.specs.declared.By.the-variants as by
 use Rattle.model.specs.declared.View.the-variants as view
+use Rattle.model.specs.declared.Phase.{Phase}
+use Rattle.model.specs.declared.Phase.the-variants.{Initialised, Changing, Stopped}
+use Rattle.model.specs.declared.Readable.the-variants.{Iar, Hppir, Rpr}
 use Rattle.model.specs.declared.SystemRegister.{SystemRegister}
 use Rattle.model.specs.declared.SystemRegister.the-variants.{Both, Read, Write, Unnamed}
 use Rattle.model.specs.declared.RegisterGroup.{RegisterGroup}
@@ -55,50 +61,39 @@ pub data Call : Type 0 where
   save : List ℕ → Call
   restore : List ℕ → Call
 
--- ---- refusals
+-- ---- tests that several calls share
 
--- what a call is lent: words of any content, a device's words, a device's words with a buffer to fill, or with a record to read
-pub data Lent : Type 0 where
-  anyState aDevice : Lent
-  aBuffer aRecord : List ℕ → Lent
+-- the phase that a call asks for; `Changing` is that of a guest's write, an acknowledge and a line change
+abbrev pub inPhase : Phase → List ℕ → Bool
+inPhase Initialised s = isInitialised s
+inPhase Changing s = isInitialised s
+inPhase Stopped s = stopped s
 
-unfoldable pub lentTo : Call → Lent
-lentTo make = anyState
-lentTo (addVcpu a) = aDevice
-lentTo (setRunning v on) = aDevice
-lentTo (changeLine v id level) = aDevice
-lentTo (querySignal v) = aDevice
-lentTo (readDistributor v off size) = aDevice
-lentTo (writeDistributor v off size x) = aDevice
-lentTo (readFrame v f off size) = aDevice
-lentTo (writeFrame v f off size x) = aDevice
-lentTo (readSystem v e) = aDevice
-lentTo (writeSystem v e x) = aDevice
-lentTo (getAttribute g a) = aDevice
-lentTo (setAttribute g a x) = aDevice
-lentTo (save buf) = aBuffer buf
-lentTo (restore bytes) = aRecord bytes
-
--- EFAULT comes first everywhere: the state is not sound; for making a device, of wrong length
-unfoldable pub acceptable : Lent → List ℕ → Bool
-acceptable anyState s = eqb (length s) stateLength
-acceptable aDevice s = sound s
-acceptable (aBuffer buf) s = sound s
-acceptable (aRecord bytes) s = sound s
+abbrev pub phase : Phase → List ℕ → Check
+phase p s = (inPhase p s, Ebusy)
 
 abbrev pub isVcpu : List ℕ → ℕ → Bool
 isVcpu s v = ltb v (vcpus s)
 
 -- a call that names a vCPU, running or not: not initialised; no such index
-abbrev pub vcpuChecks : ℕ → List ℕ → List Check
-vcpuChecks v s = (isInitialised s, Ebusy) ∷ (isVcpu s v, Einval) ∷ []
+abbrev pub vcpuChecks : Phase → ℕ → List ℕ → List Check
+vcpuChecks p v s = phase p s ∷ (isVcpu s v, Einval) ∷ []
 
 -- guest access: not initialised; no such vCPU or frame; not running
-unfoldable pub guestChecks : ℕ → List ℕ → List Check
-guestChecks v s = (isInitialised s, Ebusy) ∷ (isVcpu s v, Einval) ∷ (eqb (running s v) 1, Eperm) ∷ []
+unfoldable pub guestChecks : Phase → ℕ → List ℕ → List Check
+guestChecks p v s = phase p s ∷ (isVcpu s v, Einval) ∷ (eqb (running s v) 1, Eperm) ∷ []
 
-unfoldable pub frameChecks : ℕ → ℕ → List ℕ → List Check
-frameChecks v f s = (isInitialised s, Ebusy) ∷ (isVcpu s v, Einval) ∷ (isVcpu s f, Einval) ∷ (eqb (running s v) 1, Eperm) ∷ []
+unfoldable pub frameChecks : Phase → ℕ → ℕ → List ℕ → List Check
+frameChecks p v f s = phase p s ∷ (isVcpu s v, Einval) ∷ (isVcpu s f, Einval) ∷ (eqb (running s v) 1, Eperm) ∷ []
+
+-- of the reads of system registers an acknowledge changes interrupts
+unfoldable pub readPhase : SystemRegister → Phase
+readPhase (Both p) = Initialised
+readPhase (Read (Iar g)) = Changing
+readPhase (Read (Hppir g)) = Initialised
+readPhase (Read Rpr) = Initialised
+readPhase (Write w) = Initialised
+readPhase Unnamed = Initialised
 
 -- a system register that is not listed for that direction; an acknowledge that finds its active-priority bit set
 unfoldable pub readChecks : SystemRegister → ℕ → List ℕ → List Check
@@ -119,7 +114,7 @@ hasLine s v id = cond (isPpi id) (isVcpu s v) (isSpi s id)
 
 -- groups 1, 5, 6, 7
 unfoldable pub registerChecks : RegisterGroup → ℕ → List ℕ → List Check
-registerChecks q a s = (numberOk q a, Einval) ∷ (affinityKnown q a s, Einval) ∷ (stopped s, Ebusy) ∷ (known (item q a s), Enxio) ∷ []
+registerChecks q a s = (numberOk q a, Einval) ∷ (affinityKnown q a s, Einval) ∷ phase Stopped s ∷ (known (item q a s), Enxio) ∷ []
 
 unfoldable pub getChecks : AttributeGroup → ℕ → List ℕ → List Check
 getChecks (Registers q) a s = registerChecks q a s
@@ -133,31 +128,10 @@ setChecks Count a x s = (isCount x, Einval) ∷ (eqb (count s) 0 && not (isIniti
 setChecks Initialise a x s = (eqb a 0, Enxio) ∷ (isInitialised s || ltb 0 (vcpus s), Enodev) ∷ []
 setChecks Unknown a x s = (false, Enxio) ∷ []
 
--- after EFAULT, the tests of each call in their order
-unfoldable pub checks : Call → List ℕ → List Check
-checks make s = []
-checks (addVcpu a) s = (not (isInitialised s), Ebusy) ∷ (isAffinity a, Einval) ∷ (unused s a (vcpus s), Eexist) ∷ (ltb (vcpus s) mostVcpus, Enomem) ∷ []
-checks (setRunning v on) s = vcpuChecks v s
-checks (changeLine v id level) s = (isInitialised s, Ebusy) ∷ (hasLine s v id, Einval) ∷ []
-checks (querySignal v) s = vcpuChecks v s
-checks (readDistributor v off size) s = guestChecks v s
-checks (writeDistributor v off size x) s = guestChecks v s
-checks (readFrame v f off size) s = frameChecks v f s
-checks (writeFrame v f off size x) s = frameChecks v f s
-checks (readSystem v e) s = guestChecks v s ++ readChecks (system e) v s
-checks (writeSystem v e x) s = guestChecks v s ++ writeChecks (system e)
-checks (getAttribute g a) s = getChecks (groupOf g) a s
-checks (setAttribute g a x) s = setChecks (groupOf g) a x s
-checks (save buf) s = (stopped s, Ebusy) ∷ (leb (length (recordOf s)) (length buf), Enospc) ∷ []
-checks (restore bytes) s = (stopped s, Ebusy) ∷ (fresh s, Eexist) ∷ faults (restored s bytes)
-
-unfoldable pub refusal : Call → List ℕ → Refusal
-refusal c s = elim (acceptable (lentTo c) s) [ true ↦ firstFailing (checks c s) | false ↦ Refuse Efault ]
-
--- ---- what a call that is not refused answers: all but reads, queries and save answer 0
+-- ---- what a call that goes by a register or a group answers
 
 unfoldable pub systemValue : SystemRegister → ℕ → List ℕ → ℕ
-systemValue (Both p) v s = plainRead s v p
+systemValue (Both p) v s = plainRead by.Guest s v p
 systemValue (Read r) v s = systemRead s v r
 systemValue (Write w) v s = 0
 systemValue Unnamed v s = 0
@@ -168,24 +142,7 @@ getValue Count a s = count s
 getValue Initialise a s = 0
 getValue Unknown a s = 0
 
-unfoldable pub value : Call → List ℕ → ℕ
-value make s = 0
-value (addVcpu a) s = 0
-value (setRunning v on) s = 0
-value (changeLine v id level) s = 0
-value (querySignal v) s = signal s v
-value (readDistributor v off size) s = guestRead s view.Distributor off size
-value (writeDistributor v off size x) s = 0
-value (readFrame v f off size) s = guestRead s (view.Frame f) off size
-value (writeFrame v f off size x) s = 0
-value (readSystem v e) s = systemValue (system e) v s
-value (writeSystem v e x) s = 0
-value (getAttribute g a) s = getValue (groupOf g) a s
-value (setAttribute g a x) s = 0
-value (save buf) s = length (recordOf s)
-value (restore bytes) s = 0
-
--- ---- the state that it leaves
+-- ---- the state that a call leaves
 
 -- just made: all zero
 unfoldable pub made : List ℕ
@@ -193,7 +150,7 @@ made = replicate stateLength 0
 
 -- SGI edge flags, BPR0 2 and BPR1 3 from a vCPU's adding on
 unfoldable pub vcpuAdded : List ℕ → ℕ → ℕ → List ℕ
-vcpuAdded s n a = set (set (set (set (set s (sgiEdgesAt n) 0xffff) (affinityAt n) a) (bprAt n 0) (leastBpr 0)) (bprAt n 1) (leastBpr 1)) vcpusAt (n + 1)
+vcpuAdded s n a = set (set (set (set (set s (sgiEdgesAt n) edgeBits) (affinityAt n) a) (bprAt n 0) (leastBpr 0)) (bprAt n 1) (leastBpr 1)) vcpusAt (n + 1)
 
 -- no change if done already; an unset count becomes 256
 unfoldable pub initialisedNext : List ℕ → List ℕ
@@ -206,7 +163,7 @@ systemReadState (Write w) v s = s
 systemReadState Unnamed v s = s
 
 unfoldable pub systemWriteState : SystemRegister → ℕ → ℕ → List ℕ → List ℕ
-systemWriteState (Both p) v x s = plainWrite s v p x
+systemWriteState (Both p) v x s = plainWrite by.Guest s v p x
 systemWriteState (Read r) v x s = s
 systemWriteState (Write w) v x s = systemWrite s v w x
 systemWriteState Unnamed v x s = s
@@ -217,48 +174,105 @@ setState Count a x s = set s countAt x
 setState Initialise a x s = initialisedNext s
 setState Unknown a x s = s
 
-unfoldable pub next : Call → List ℕ → List ℕ
-next make s = made
-next (addVcpu a) s = vcpuAdded s (vcpus s) a
-next (setRunning v on) s = set s (runningAt v) (val on)
-next (changeLine v id level) s = lineChanged s v id level
-next (querySignal v) s = s
-next (readDistributor v off size) s = s
-next (writeDistributor v off size x) s = guestWrite s view.Distributor off size x
-next (readFrame v f off size) s = s
-next (writeFrame v f off size x) s = guestWrite s (view.Frame f) off size x
-next (readSystem v e) s = systemReadState (system e) v s
-next (writeSystem v e x) s = systemWriteState (system e) v x s
-next (getAttribute g a) s = s
-next (setAttribute g a x) s = setState (groupOf g) a x s
-next (save buf) s = s
-next (restore bytes) s = loadedState s (restored s bytes)
+-- ---- a call, described
 
--- ---- the lent buffer, and what it holds after a call that is not refused
+-- a call made at some words, whatever they are
+pub record Description : Type 0 where
+  -- the words are what it asks of the state that it is lent: EFAULT if not, before all else
+  pub acceptable : Bool
+  -- what it is lent beside the state, the numbers of each buffer
+  pub lent : List (List ℕ)
+  -- its tests, in their order
+  pub tests : List Check
+  -- what it answers, the state and the buffers that it leaves, where no test fails; derived words are put in after it
+  pub answer : ℕ
+  pub state : List ℕ
+  pub left : List (List ℕ)
 
-unfoldable pub lentBytes : Lent → List ℕ
-lentBytes anyState = []
-lentBytes aDevice = []
-lentBytes (aBuffer buf) = buf
-lentBytes (aRecord bytes) = bytes
+-- lent a device alone, it answers a number
+abbrev pub answers : ℕ → List ℕ → List Check → Description
+answers x s tests = record { acceptable = sound s; lent = []; tests = tests; answer = x; state = s; left = [] }
 
-unfoldable pub filled : Lent → List ℕ → List ℕ
-filled anyState s = []
-filled aDevice s = []
-filled (aBuffer buf) s = saved s buf
-filled (aRecord bytes) s = bytes
+-- lent a device alone, it answers 0 and leaves another state
+abbrev pub leaves : List ℕ → List ℕ → List Check → Description
+leaves t s tests = record { acceptable = sound s; lent = []; tests = tests; answer = 0; state = t; left = [] }
 
--- ---- a call
+unfoldable pub describe : Call → List ℕ → Description
+-- of words of any content, and the right length
+describe make s = record { acceptable = eqb (length s) stateLength; lent = []; tests = []; answer = 0; state = made; left = [] }
+describe (addVcpu a) s = leaves (vcpuAdded s (vcpus s) a) s ((not (isInitialised s), Ebusy) ∷ (isAffinity a, Einval) ∷ (unused s a (vcpus s), Eexist) ∷ (ltb (vcpus s) mostVcpus, Enomem) ∷ [])
+describe (setRunning v on) s = leaves (set s (runningAt v) (val on)) s (vcpuChecks Initialised v s)
+describe (changeLine v id level) s = leaves (lineChanged s v id level) s (phase Changing s ∷ (hasLine s v id, Einval) ∷ [])
+describe (querySignal v) s = answers (signal s v) s (vcpuChecks Initialised v s)
+describe (readDistributor v off size) s = answers (guestRead s view.Distributor off size) s (guestChecks Initialised v s)
+describe (writeDistributor v off size x) s = leaves (guestWrite s view.Distributor off size x) s (guestChecks Changing v s)
+describe (readFrame v f off size) s = answers (guestRead s (view.Frame f) off size) s (frameChecks Initialised v f s)
+describe (writeFrame v f off size x) s = leaves (guestWrite s (view.Frame f) off size x) s (frameChecks Changing v f s)
+describe (readSystem v e) s = record {
+  acceptable = sound s;
+  lent = [];
+  tests = guestChecks (readPhase (system e)) v s ++ readChecks (system e) v s;
+  answer = systemValue (system e) v s;
+  state = systemReadState (system e) v s;
+  left = [];
+}
+describe (writeSystem v e x) s = leaves (systemWriteState (system e) v x s) s (guestChecks Changing v s ++ writeChecks (system e))
+describe (getAttribute g a) s = answers (getValue (groupOf g) a s) s (getChecks (groupOf g) a s)
+describe (setAttribute g a x) s = leaves (setState (groupOf g) a x s) s (setChecks (groupOf g) a x s)
+describe (save buf) s = record {
+  acceptable = sound s;
+  lent = buf ∷ [];
+  tests = phase Stopped s ∷ (leb (length (recordOf s)) (length buf), Enospc) ∷ [];
+  answer = length (recordOf s);
+  state = s;
+  left = saved s buf ∷ [];
+}
+describe (restore bytes) s = record {
+  acceptable = sound s;
+  lent = bytes ∷ [];
+  tests = phase Stopped s ∷ (fresh s, Eexist) ∷ faults (restored s bytes);
+  answer = 0;
+  state = loadedState s (restored s bytes);
+  left = bytes ∷ [];
+}
+
+-- its parts by name
+abbrev pub acceptable : Call → List ℕ → Bool
+acceptable c s = describe c s .acceptable
+
+abbrev pub lentTo : Call → List ℕ → List (List ℕ)
+lentTo c s = describe c s .lent
+
+abbrev pub checks : Call → List ℕ → List Check
+checks c s = describe c s .tests
+
+abbrev pub value : Call → List ℕ → ℕ
+value c s = describe c s .answer
+
+abbrev pub nextCore : Call → List ℕ → List ℕ
+nextCore c s = describe c s .state
+
+-- the next state has the words that are derived from the others put in
+abbrev pub next : Call → List ℕ → List ℕ
+next c s = withDerived (nextCore c s)
+
+abbrev pub filled : Call → List ℕ → List (List ℕ)
+filled c s = describe c s .left
+
+-- ---- a call made
+
+unfoldable pub refusal : Call → List ℕ → Refusal
+refusal c s = elim (acceptable c s) [ true ↦ firstFailing (checks c s) | false ↦ Refuse Efault ]
 
 pub record Outcome : Type 0 where
   pub answer : ℤ
   pub state : List ℕ
-  pub buffer : List ℕ
+  pub buffers : List (List ℕ)
 
 -- a refused call changes nothing
 unfoldable pub settle : Refusal → Call → List ℕ → Outcome
-settle None c s = record { answer = number (Value (value c s)); state = next c s; buffer = filled (lentTo c) s }
-settle (Refuse e) c s = record { answer = number (Refused e); state = s; buffer = lentBytes (lentTo c) }
+settle None c s = record { answer = number (Value (value c s)); state = next c s; buffers = filled c s }
+settle (Refuse e) c s = record { answer = number (Refused e); state = s; buffers = lentTo c s }
 
 unfoldable pub call : Call → List ℕ → Outcome
 call c s = settle (refusal c s) c s
@@ -269,13 +283,13 @@ frontOf (pos n) b = take n b
 frontOf (negsuc n) b = []
 
 unfoldable pub handedBack : Outcome → List ℕ
-handedBack o = frontOf (o .answer) (o .buffer)
+handedBack o = frontOf (o .answer) (getD (o .buffers) 0 [])
 
--- what a function promises: it answers the number, and leaves the words and the bytes, of an outcome
-pub record Does (o : Outcome) (r : ℤ) (t : List ℕ) (b : List ℕ) : Type 0 where
+-- what a function promises: it answers the number, and leaves the words and the buffers, of an outcome
+pub record Does (o : Outcome) (r : ℤ) (t : List ℕ) (bs : List (List ℕ)) : Type 0 where
   pub answer : r ≡ o .answer
   pub state : t ≡ o .state
-  pub buffer : b ≡ o .buffer
+  pub buffers : bs ≡ o .buffers
 
 -- what save promises its caller: the number left in a lent number, the words, and the part of the buffer that it hands back
 pub record Saves (o : Outcome) (r : ℤ) (t : List ℕ) (front : List ℕ) : Type 0 where

@@ -50,7 +50,7 @@ pub record Whole (from : List ℕ) (cs : List Call) : Type 0 where
   pub put-each : (a : Attribute) → List·Memᴰ a (listed from) → (c : Call) × Put from a c × List·Memᴰ c cs
 
 -- equal, and for ever after alike: every list of later calls, of every kind, each with its numbers and buffers, gives the same outcomes on both.
--- An outcome is the answer, every word of the state and every byte of the lent buffer; what is handed back follows from it.
+-- An outcome is the answer, every word of the state and every number of each lent buffer; what is handed back follows from it.
 pub record Same (s t : List ℕ) : Type 0 where
   pub equal : t ≡ s
   pub later : (ds : List Call) → trace ds t ≡ trace ds s

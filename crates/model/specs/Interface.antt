@@ -1,12 +1,15 @@
 -- The CPU interface of vCPU v.
-use Prim.Native.Nat.{ℕ, zero, suc, _+_, _*_, _/_, _%_, _^_, min, max}
+use Prim.Native.Nat.{ℕ, zero, suc, _+_, _*_, _-_, _/_, _%_, _^_, min, max}
 use mathlib.Core.Bool.{Bool, true, false, not, cond, _&&_, _||_}
 use mathlib.Core.List.{List, [], _∷_}
-use lib.Dec.{eqb, ltb}
+use lib.Dec.{eqb, ltb, leb}
 use lib.ListN.{set}
-use Rattle.model.specs.Words.{val, bit, withBit, lowest}
+use Rattle.model.specs.Values.{iccCtlrFixed, iccCtlrBits, iccSre, idSpan, spurious}
+use Rattle.model.specs.Words.{val, bit, withBit, masked, lowest}
 use Rattle.model.specs.Layout.{word, count, vcpus, enablesAt, affinity, pmrAt, ctlrAt, bprAt, leastBpr, aprAt, igrpenAt, latchField, activeField}
 use Rattle.model.specs.Interrupts.{isPrivate, idsBelow, isSpi, exists, group, enabled, active, priority, route, pending, setFlag}
+use Rattle.model.specs.Sound.{fits}
+use Rattle.model.specs.declared.By.{By}
 use Rattle.model.specs.declared.Plain.{Plain}
 use Rattle.model.specs.declared.Plain.the-variants.{Pmr, Bpr, Apr, Ctlr, Sre, Igrpen}
 use Rattle.model.specs.declared.Readable.{Readable}
@@ -81,32 +84,32 @@ groupIn (Read r) = readGroup r
 groupIn (Write w) = writeGroup w
 groupIn Unnamed = 0
 
--- ---- the plain registers
+-- ---- the plain registers, read and written by guest or attribute
 
-unfoldable pub plainRead : List ℕ → ℕ → Plain → ℕ
-plainRead s v Pmr = word s (pmrAt v)
-plainRead s v (Bpr g) = word s (bprAt v g)
-plainRead s v (Apr g) = word s (aprAt v g)
-plainRead s v Ctlr = 0x400 + word s (ctlrAt v)
-plainRead s v Sre = 7
-plainRead s v (Igrpen g) = word s (igrpenAt v g)
+unfoldable pub plainRead : By → List ℕ → ℕ → Plain → ℕ
+plainRead by s v Pmr = word s (pmrAt v)
+plainRead by s v (Bpr g) = word s (bprAt v g)
+plainRead by s v (Apr g) = word s (aprAt v g)
+plainRead by s v Ctlr = iccCtlrFixed + word s (ctlrAt v)
+plainRead by s v Sre = iccSre
+plainRead by s v (Igrpen g) = word s (igrpenAt v g)
 
 -- PMR keeps bits 7-3, BPRs bits 2-0 raised to their least, APs bits 31-0, IGRPEN bit 0; of CTLR bit 1 is written; SRE ignores writes
-unfoldable pub plainWrite : List ℕ → ℕ → Plain → ℕ → List ℕ
-plainWrite s v Pmr x = set s (pmrAt v) (x % 256 / 8 * 8)
-plainWrite s v (Bpr g) x = set s (bprAt v g) (max (leastBpr g) (x % 8))
-plainWrite s v (Apr g) x = set s (aprAt v g) (x % 2 ^ 32)
-plainWrite s v Ctlr x = set s (ctlrAt v) (x / 2 % 2 * 2)
-plainWrite s v Sre x = s
-plainWrite s v (Igrpen g) x = set s (igrpenAt v g) (x % 2)
+unfoldable pub plainWrite : By → List ℕ → ℕ → Plain → ℕ → List ℕ
+plainWrite by s v Pmr x = set s (pmrAt v) (x % 256 / 8 * 8)
+plainWrite by s v (Bpr g) x = set s (bprAt v g) (max (leastBpr g) (x % 8))
+plainWrite by s v (Apr g) x = set s (aprAt v g) (x % 2 ^ 32)
+plainWrite by s v Ctlr x = set s (ctlrAt v) (masked iccCtlrBits x)
+plainWrite by s v Sre x = s
+plainWrite by s v (Igrpen g) x = set s (igrpenAt v g) (x % 2)
 
 -- by attribute, a value that CTLR or SRE never reads is refused
 unfoldable pub plainTakes : Plain → ℕ → Bool
 plainTakes Pmr x = true
 plainTakes (Bpr g) x = true
 plainTakes (Apr g) x = true
-plainTakes Ctlr x = eqb x 0x400 || eqb x 0x402
-plainTakes Sre x = eqb x 7
+plainTakes Ctlr x = leb iccCtlrFixed x && fits (x - iccCtlrFixed) iccCtlrBits
+plainTakes Sre x = eqb x iccSre
 plainTakes (Igrpen g) x = true
 
 -- ---- candidates and the best
@@ -126,20 +129,20 @@ candidate s v id = ownOrRouted s v id && pending s v id && enabled s v id && not
 -- An interrupt as one number, priority first and then ID: the least is the least ID among those of least priority.
 -- `nothing` stands behind every interrupt: its priority is 256 and its ID is 1023.
 unfoldable pub rank : List ℕ → ℕ → ℕ → ℕ
-rank s v id = priority s v id * 1024 + id
+rank s v id = priority s v id * idSpan + id
 
 abbrev pub nothing : ℕ
-nothing = 256 * 1024 + 1023
+nothing = 256 * idSpan + spurious
 
 abbrev pub rankPriority : ℕ → ℕ
-rankPriority b = b / 1024
+rankPriority b = b / idSpan
 
 abbrev pub rankId : ℕ → ℕ
-rankId b = b % 1024
+rankId b = b % idSpan
 
 -- whether b is an interrupt
 abbrev pub found : ℕ → Bool
-found b = ltb b (256 * 1024)
+found b = ltb b (256 * idSpan)
 
 -- the better of b and interrupt id
 unfoldable pub better : List ℕ → ℕ → ℕ → ℕ → ℕ
@@ -203,7 +206,7 @@ acknowledged s v g b = cond (found b) (taken s v g b) s
 
 -- HPPIRg: the best's ID if of group g, else 1023
 unfoldable pub highestPending : List ℕ → ℕ → ℕ → ℕ
-highestPending s v g = let b = best s v in cond (ofGroup s v g b) (rankId b) 1023
+highestPending s v g = let b = best s v in cond (ofGroup s v g b) (rankId b) spurious
 
 -- 1 if IAR1, 2 if IAR0 would give an interrupt, else 0
 unfoldable pub signal : List ℕ → ℕ → ℕ

@@ -60,45 +60,76 @@ distributorStatusAt = 4
 abbrev pub block : ℕ → ℕ
 block v = 16 + 32 * v
 
+-- the words of a block after its bank, from the block's first on; a number g is the interrupt group
+abbrev pub affinityField : ℕ
+affinityField = 16
+
+abbrev pub runningField : ℕ
+runningField = 17
+
+abbrev pub frameStatusField : ℕ
+frameStatusField = 18
+
+abbrev pub pmrField : ℕ
+pmrField = 19
+
+abbrev pub ctlrField : ℕ
+ctlrField = 20
+
+abbrev pub bprField : ℕ → ℕ
+bprField g = 21 + g
+
+abbrev pub aprField : ℕ → ℕ
+aprField g = 23 + g
+
+abbrev pub igrpenField : ℕ → ℕ
+igrpenField g = 25 + g
+
 abbrev pub affinityAt : ℕ → ℕ
-affinityAt v = block v + 16
+affinityAt v = block v + affinityField
 
 abbrev pub affinity : List ℕ → ℕ → ℕ
 affinity s v = word s (affinityAt v)
 
 abbrev pub runningAt : ℕ → ℕ
-runningAt v = block v + 17
+runningAt v = block v + runningField
 
 abbrev pub running : List ℕ → ℕ → ℕ
 running s v = word s (runningAt v)
 
--- the places of its other words; a number g is the interrupt group
+-- the places of its other words
 abbrev pub frameStatusAt : ℕ → ℕ
-frameStatusAt v = block v + 18
+frameStatusAt v = block v + frameStatusField
 
 abbrev pub pmrAt : ℕ → ℕ
-pmrAt v = block v + 19
+pmrAt v = block v + pmrField
 
 abbrev pub ctlrAt : ℕ → ℕ
-ctlrAt v = block v + 20
+ctlrAt v = block v + ctlrField
 
 abbrev pub bprAt : ℕ → ℕ → ℕ
-bprAt v g = block v + (21 + g)
+bprAt v g = block v + bprField g
 
 -- BPR0's least value is 2, BPR1's 3; they are the fresh values too
 abbrev pub leastBpr : ℕ → ℕ
 leastBpr g = 2 + g
 
 abbrev pub aprAt : ℕ → ℕ → ℕ
-aprAt v g = block v + (23 + g)
+aprAt v g = block v + aprField g
 
 abbrev pub igrpenAt : ℕ → ℕ → ℕ
-igrpenAt v g = block v + (25 + g)
+igrpenAt v g = block v + igrpenField g
 
--- ---- the bank of the interrupts 32 w to 32 w + 31, as vCPU v sees it
+-- ---- the bank of the interrupts 32 w to 32 w + 31
+
+-- of SPIs, w from 1 on
+abbrev pub spiBank : ℕ → ℕ
+spiBank w = 256 + 16 * w
+
+-- as vCPU v sees it
 abbrev pub bank : ℕ → ℕ → ℕ
 bank v zero = block v
-bank v (suc w) = 256 + 16 * suc w
+bank v (suc w) = spiBank (suc w)
 
 -- the words of a bank, from its first on
 abbrev pub groupField : ℕ

@@ -2,6 +2,7 @@
 pub mod Values
 pub mod Words
 pub mod Layout
+pub mod Roles
 pub mod Interrupts
 pub mod Sound
 pub mod Refusals

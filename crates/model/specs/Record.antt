@@ -4,6 +4,7 @@ use mathlib.Core.Bool.{Bool, true, false, cond, _&&_}
 use mathlib.Core.List.{List, [], _∷_, _++_, map}
 use lib.Dec.{eqb, ltb}
 use lib.ListN.{length, drop}
+use Rattle.model.specs.Values.{version}
 use Rattle.model.specs.Words.{each}
 use Rattle.model.specs.Layout.{count, vcpus, affinity}
 use Rattle.model.specs.Interrupts.{idsBelow}
@@ -84,9 +85,6 @@ listed s =
 pub data Entry : Type 0 where
   header : ℕ → Entry
   attributeOf : Attribute → Entry
-
-abbrev pub version : ℕ
-version = 1
 
 -- version, count, vCPUs, each affinity, then the listed attributes
 unfoldable pub entries : List ℕ → List Entry

@@ -5,6 +5,7 @@ use mathlib.Core.List.{List, [], _∷_}
 use lib.Dec.{eqb, ltb, leb}
 use lib.ListN.{set}
 use Rattle.model.specs.Words.{bit, gather}
+use Rattle.model.specs.Values.{iidr, gicdCtlrFixed, gicdTyperFixed}
 use Rattle.model.specs.Layout.{word, count, vcpus, enablesAt, distributorStatusAt, frameStatusAt, affinity, bank, groupField, enabledField, latchField, activeField, lineField, priorityField, edgeField, routeAt}
 use Rattle.model.specs.Interrupts.{isPrivate, isSpi, flag, edge, priority, route, pending}
 use Rattle.model.specs.declared.By.{By}
@@ -175,9 +176,6 @@ readConfig s x k = gather 32 (λ i. eqb (i % 2) 1 && has s x (16 * k + i / 2) &&
 unfoldable pub readRoute : List ℕ → View → ℕ → ℕ
 readRoute s x k = cond (eqb (k % 2) 0 && has s x (32 + k / 2)) (route s (32 + k / 2)) 0
 
-abbrev pub iidr : ℕ
-iidr = 0x01001000
-
 unfoldable pub statusAt : View → ℕ
 statusAt Distributor = distributorStatusAt
 statusAt (Frame v) = frameStatusAt v
@@ -188,8 +186,8 @@ frameTyper s v = v * 256 + cond (eqb (v + 1) (vcpus s)) 16 0
 
 unfoldable pub read : By → List ℕ → View → Register → ℕ → ℕ
 read by s x (Fixed c) k = c
-read by s x Control k = 0x50 + word s enablesAt
-read by s x Typer k = 0x02480000 + count s / 32 - 1
+read by s x Control k = gicdCtlrFixed + word s enablesAt
+read by s x Typer k = gicdTyperFixed + count s / 32 - 1
 read by s x Iidr k = iidr
 read by s x Status k = word s (statusAt x)
 read by s x (Bits f) k = readFlags s x (flags f .field) (flags f .from) (shownTo by (flags f)) k

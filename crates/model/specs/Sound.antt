@@ -5,34 +5,36 @@ use mathlib.Core.List.{List, [], _∷_}
 use lib.Dec.{leb, ltb, eqb}
 use lib.ListN.{length, getD}
 use Rattle.model.specs.Words.{within, every, allBelow}
+use Rattle.model.specs.Values.{iccCtlrBits, flagBits, lastFlagBits, ppiBits, priorityBits, edgeBits, lastEdgeBits, routeBits, affinityBits, statusrBits, pmrBits, bprBits, aprBits, gicdCtlrBits, oneBit}
+use Rattle.model.specs.Roles.{derivedOk}
 use Rattle.model.specs.Layout.{stateLength, mostVcpus, word, initialised, isInitialised, count, vcpus, affinity, running, bprAt, leastBpr, sgiEdgesAt}
 
 -- ---- the bits that a word may have
 
 -- the first 16 words of an initialised device; of words 0, 1 and 2 `setup` says more
 abbrev pub headerBits : List ℕ
-headerBits = 0xffffffff ∷ 0xffffffff ∷ 0xffffffff ∷ 3 ∷ 15 ∷ []
+headerBits = 0xffffffff ∷ 0xffffffff ∷ 0xffffffff ∷ gicdCtlrBits ∷ statusrBits ∷ []
 
 -- a vCPU's block: priorities are multiples of 8; SGIs have no line and are edge, PPIs are level; Aff3 is 0 and Aff0 at most 15
 abbrev pub blockBits : List ℕ
 blockBits =
-    0xffffffff ∷ 0xffffffff ∷ 0xffffffff ∷ 0xffffffff ∷ 0xffff0000
-    ∷ 0xf8f8f8f8 ∷ 0xf8f8f8f8 ∷ 0xf8f8f8f8 ∷ 0xf8f8f8f8 ∷ 0xf8f8f8f8 ∷ 0xf8f8f8f8 ∷ 0xf8f8f8f8 ∷ 0xf8f8f8f8
-    ∷ 0xffff ∷ 0 ∷ 0
-    ∷ 0x00ffff0f ∷ 1 ∷ 15 ∷ 0xf8 ∷ 2 ∷ 7 ∷ 7 ∷ 0xffffffff ∷ 0xffffffff ∷ 1 ∷ 1 ∷ []
+    flagBits ∷ flagBits ∷ flagBits ∷ flagBits ∷ ppiBits
+    ∷ priorityBits ∷ priorityBits ∷ priorityBits ∷ priorityBits ∷ priorityBits ∷ priorityBits ∷ priorityBits ∷ priorityBits
+    ∷ edgeBits ∷ 0 ∷ 0
+    ∷ affinityBits ∷ oneBit ∷ statusrBits ∷ pmrBits ∷ iccCtlrBits ∷ bprBits ∷ bprBits ∷ aprBits ∷ aprBits ∷ oneBit ∷ oneBit ∷ []
 
 -- a bank of SPIs; in the last one, of the interrupts 992 to 1023, those from 1020 do not exist
 abbrev pub bankBits : List ℕ
 bankBits =
-    0xffffffff ∷ 0xffffffff ∷ 0xffffffff ∷ 0xffffffff ∷ 0xffffffff
-    ∷ 0xf8f8f8f8 ∷ 0xf8f8f8f8 ∷ 0xf8f8f8f8 ∷ 0xf8f8f8f8 ∷ 0xf8f8f8f8 ∷ 0xf8f8f8f8 ∷ 0xf8f8f8f8 ∷ 0xf8f8f8f8
-    ∷ 0xffff ∷ 0xffff ∷ []
+    flagBits ∷ flagBits ∷ flagBits ∷ flagBits ∷ flagBits
+    ∷ priorityBits ∷ priorityBits ∷ priorityBits ∷ priorityBits ∷ priorityBits ∷ priorityBits ∷ priorityBits ∷ priorityBits
+    ∷ edgeBits ∷ edgeBits ∷ []
 
 abbrev pub lastBankBits : List ℕ
 lastBankBits =
-    0x0fffffff ∷ 0x0fffffff ∷ 0x0fffffff ∷ 0x0fffffff ∷ 0x0fffffff
-    ∷ 0xf8f8f8f8 ∷ 0xf8f8f8f8 ∷ 0xf8f8f8f8 ∷ 0xf8f8f8f8 ∷ 0xf8f8f8f8 ∷ 0xf8f8f8f8 ∷ 0xf8f8f8f8 ∷ 0
-    ∷ 0xffff ∷ 0x0fff ∷ []
+    lastFlagBits ∷ lastFlagBits ∷ lastFlagBits ∷ lastFlagBits ∷ lastFlagBits
+    ∷ priorityBits ∷ priorityBits ∷ priorityBits ∷ priorityBits ∷ priorityBits ∷ priorityBits ∷ priorityBits ∷ 0
+    ∷ edgeBits ∷ lastEdgeBits ∷ []
 
 -- fresh values: all zero but the SGI edge flags, BPR0 2, BPR1 3, the affinity, the count and the initialised mark. With the least values of `vcpuOk`
 -- a BPR0 within 2 is 2, a BPR1 within 3 is 3
@@ -43,8 +45,8 @@ abbrev pub freshBlockBits : List ℕ
 freshBlockBits =
     0 ∷ 0 ∷ 0 ∷ 0 ∷ 0
     ∷ 0 ∷ 0 ∷ 0 ∷ 0 ∷ 0 ∷ 0 ∷ 0 ∷ 0
-    ∷ 0xffff ∷ 0 ∷ 0
-    ∷ 0x00ffff0f ∷ 0 ∷ 0 ∷ 0 ∷ 0 ∷ 2 ∷ 3 ∷ []
+    ∷ edgeBits ∷ 0 ∷ 0
+    ∷ affinityBits ∷ 0 ∷ 0 ∷ 0 ∷ 0 ∷ leastBpr 0 ∷ leastBpr 1 ∷ []
 
 -- entry j of a table, where the thing that it speaks of exists
 unfoldable pub entry : Bool → List ℕ → ℕ → ℕ
@@ -58,7 +60,7 @@ usedBits c n k =
     (cond (ltb k 272) (entry (ltb ((k - 16) / 32) n) blockBits ((k - 16) % 32))
     (cond (ltb k 752) (entry (ltb (32 * ((k - 256) / 16)) c) bankBits ((k - 256) % 16))
     (cond (ltb k 768) (entry (ltb 992 c) lastBankBits (k - 752))
-    (cond (ltb k 1756 && ltb (k - 736) c) 0x00ffffff 0))))
+    (cond (ltb k 1756 && ltb (k - 736) c) routeBits 0))))
 
 -- word k of a fresh device of n vCPUs
 unfoldable pub freshBits : ℕ → ℕ → ℕ
@@ -100,14 +102,19 @@ unused s a n = allBelow (λ v. not (eqb (affinity s v) a)) n
 
 -- SGIs are edge, BPR0 and BPR1 have at least their least values, and no vCPU before v has its affinity
 unfoldable pub vcpuOk : List ℕ → ℕ → Bool
-vcpuOk s v = eqb (word s (sgiEdgesAt v)) 0xffff && leb (leastBpr 0) (word s (bprAt v 0)) && leb (leastBpr 1) (word s (bprAt v 1)) && unused s (affinity s v) v
+vcpuOk s v = eqb (word s (sgiEdgesAt v)) edgeBits && leb (leastBpr 0) (word s (bprAt v 0)) && leb (leastBpr 1) (word s (bprAt v 1)) && unused s (affinity s v) v
 
 -- ---- sound
 
-unfoldable pub sound : List ℕ → Bool
-sound s =
+-- word by word: the length, the set-up, each vCPU, each word
+unfoldable pub core : List ℕ → Bool
+core s =
     eqb (length s) stateLength && (setup (initialised s) (count s) (vcpus s)
     && (allBelow (vcpuOk s) (vcpus s) && every (wordOk (initialised s) (count s) (vcpus s)) 0 s))
+
+-- and the words that are derived from others are right
+unfoldable pub sound : List ℕ → Bool
+sound s = core s && derivedOk s
 
 -- initialised, and no vCPU runs
 unfoldable pub stopped : List ℕ → Bool

@@ -3,6 +3,7 @@
 --     gather n f     the number below 2 ^ n whose bit i is f i
 --     withBit w i t  the word w with its bit i made t
 --     within n w m   w has only bits of m, all of them below bit n
+--     masked m w     the bits of w that m has, below bit 32
 --     spread e       the word whose bit 2 i + 1 is bit i of e, i below 16, and whose other bits are 0
 use Prim.Native.Nat.{ℕ, zero, suc, _+_, _*_, _/_, _%_, _^_}
 use mathlib.Core.Bool.{Bool, true, false, cond, _&&_}
@@ -26,6 +27,9 @@ withBit w i t = gather 32 (λ j. cond (eqb j i) t (bit w j))
 unfoldable pub within : ℕ → ℕ → ℕ → Bool
 within zero w m = eqb w 0
 within (suc n) w m = leb (w % 2) (m % 2) && within n (w / 2) (m / 2)
+
+unfoldable pub masked : ℕ → ℕ → ℕ
+masked m w = gather 32 (λ i. bit m i && bit w i)
 
 unfoldable pub spread : ℕ → ℕ
 spread e = gather 32 (λ i. eqb (i % 2) 1 && bit e (i / 2))

@@ -138,9 +138,19 @@ pub enum AttributeGroup {
     Unknown,
 }
 
-// What an attribute of the groups 1, 5, 6 and 7 names: a word of a memory-mapped register, a system register of a vCPU, or nothing.
+// What an attribute of the groups 1, 5, 6 and 7 names: a word of a memory-mapped register, a system register of the vCPU whose frame the view is, or nothing.
 pub enum Item {
     Mapped(View, Register, usize),
-    System(usize, Plain),
+    System(View, Plain),
     Nameless,
+}
+
+// The phase that a call asks for: EBUSY in another.
+pub enum Phase {
+    // Initialised.
+    Initialised,
+    // Initialised, for a call that changes interrupts: a guest's write, an acknowledge, a line change.
+    Changing,
+    // Initialised, and no vCPU runs.
+    Stopped,
 }
