@@ -87,7 +87,7 @@ pub record StoppedLike (t s : List ℕ) : Type 0 where
   pub stopped : Stopped s
   pub alike : Alike t s
 
-alike-then : (r s t : List ℕ) → Alike r s → Alike s t → Alike r t
+pub alike-then : (r s t : List ℕ) → Alike r s → Alike s t → Alike r t
 alike-then r s t a b = record {
   same-count = b .same-count ∙ a .same-count;
   same-number = b .same-number ∙ a .same-number;
