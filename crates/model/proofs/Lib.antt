@@ -31,6 +31,7 @@ pub mod Restores
 pub mod Recorded
 pub mod ReadsBack
 pub mod Loaded
+pub mod SavesBack
 pub mod SoundKept
 pub mod Premises
 pub mod Demand

@@ -8,6 +8,7 @@ use native.Mathlib.Nat.{pow-suc}
 use borrow.Author.Tests.{lt-ltb, le-ltb, ltb-true, ltb-false}
 use lib.Dec.{ltb}
 use lib.ListN.{length, getD}
+use lib.Seq.{getD-append-add}
 use Rattle.model.specs.Record.{groupsOf, encode, Number, decoded, broken, more, readGroups, decodeNumber}
 use Rattle.model.proofs.Tests.{both}
 
@@ -75,6 +76,14 @@ Bytes s = (i : ℕ) → getD s i 0 < 256
 
 bytes-tail : (b : ℕ) (s : List ℕ) → Bytes (b ∷ s) → Bytes s
 bytes-tail b s h i = h (suc i)
+
+pub bytes-rest : (s t : List ℕ) → Bytes (s ++ t) → Bytes t
+bytes-rest s t h i = rw (getD-append-add s t i 0) at (h (length s + i))
+
+pub bytes-join : (s t : List ℕ) → Bytes s → Bytes t → Bytes (s ++ t)
+bytes-join [] t g h i = h i
+bytes-join (b ∷ s) t g h zero = g 0
+bytes-join (b ∷ s) t g h (suc i) = bytes-join s t (bytes-tail b s g) h i
 
 pub read-none : (s : List ℕ) → readGroups 0 s ≡ broken
 unfolding readGroups
@@ -177,3 +186,23 @@ groups-short (suc k) n = cases (groups-short k (n / 128)) (ltb n 128) refl
 pub encode-short : (n : ℕ) → length (encode n) ≤ 5
 unfolding encode
 encode-short n = groups-short 4 n
+
+-- ---- each of them a byte
+
+byte : (b : ℕ) → b < 256 → Bytes (b ∷ [])
+byte b h zero = h
+byte b h (suc i) = omega arith
+
+groups-bytes : (k n : ℕ) → n < 128 ^ suc k → Bytes (groupsOf k n)
+groups-bytes zero n h =
+    let l : n < 128 = h in
+    rw (groups-small 0 n l) (byte n (omega arith))
+groups-bytes (suc k) n h = cases (groups-bytes k (n / 128) (omega (arith, simp pow-suc at h))) (ltb n 128) refl
+  where
+    cases : Bytes (groupsOf k (n / 128)) → (t : Bool) → ltb n 128 ≡ t → Bytes (groupsOf (suc k) n)
+    cases ih true e = let l : n < 128 = ltb-true n 128 e in rw (groups-small (suc k) n l) (byte n (omega arith))
+    cases ih false e = rw (groups-big k n (ltb-false n 128 e)) (bytes-join ((n % 128 + 128) ∷ []) (groupsOf k (n / 128)) (byte (n % 128 + 128) (omega arith)) ih)
+
+pub encode-bytes : (n : ℕ) → n < 2 ^ 32 → Bytes (encode n)
+unfolding encode
+encode-bytes n h = groups-bytes 4 n (omega arith)

@@ -77,7 +77,7 @@ module _ (from to : List ℕ) (hf : Stopped from) (ht : Fresh to) (same : Alike 
   in-to v l = rw (same .same-number) l
 
   -- the word there is the first device's, or fresh: then the set registers of a pair find it clear
-  may-put : {a : Attribute} (l : Listed from a) (w : ℕ) → (w ≡ word from (placeOf l)) ⊎ (w ≡ word to (placeOf l)) → Puts w (word from (placeOf l)) (ruleOf l)
+  pub may-put : {a : Attribute} (l : Listed from a) (w : ℕ) → (w ≡ word from (placeOf l)) ⊎ (w ≡ word to (placeOf l)) → Puts w (word from (placeOf l)) (ruleOf l)
   may-put control w h = replaces
   may-put status w h = replaces
   may-put (spi-flags b groups q) w h = replaces

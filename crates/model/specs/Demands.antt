@@ -34,7 +34,8 @@ pub record Alike (s t : List ℕ) : Type 0 where
 pub data Put (from : List ℕ) (a : Attribute) : Call → Type 0 where
   puts : (n v : ℕ) → itemOf (attr (a .group) n) from ≡ itemOf a from → call (getAttribute (a .group) n) from .answer ≡ pos v → Put from a (setAttribute (a .group) n v)
 
--- what the list may hold, made at the state s: a put of a listed attribute, a get, or an attribute call that is refused there
+-- What the list may hold, made at the state s: a put of a listed attribute, a get, or a set that is refused there. A get may be refused too: it is among the
+-- gets, each of which leaves the state as it is.
 pub data Allowed (from s : List ℕ) : Call → Type 0 where
   put : {a : Attribute} {c : Call} → List·Memᴰ a (listed from) → Put from a c → Allowed from s c
   get : (g a : ℕ) → Allowed from s (getAttribute g a)
