@@ -10,6 +10,7 @@ use Rattle.model.specs.Layout.{stateLength, word, countAt, vcpus, vcpusA
 use Rattle.model.specs.Roles.{roleOf, isDerived, withDerived, derivedOk}
 use Rattle.model.specs.Sound.{sound, stopped, fresh}
 use Rattle.model.specs.Attributes.{itemOf, itemRead, Attribute}
+use Rattle.model.specs.Record.{recordOf}
 use Rattle.model.specs.Demands.{Alike}
 use Rattle.model.specs.declared.Item.{Item}
 use Rattle.model.proofs.Tests.{and-true}
@@ -54,7 +55,7 @@ core-decides s t hs ht same =
     let lt = open-sound t ht .size in
     ext-getD 0 t s (lt ∙ sym ls) (λ k l. same k (omega arith) (none-derived k))
 
--- no register shows them
+-- no register and no record shows them
 pub with-reads : (s : List ℕ) (i : Item) → itemRead (withDerived s) i ≡ itemRead s i
 unfolding withDerived
 with-reads s i = refl
@@ -62,3 +63,7 @@ with-reads s i = refl
 pub with-names : (s : List ℕ) (a : Attribute) → itemOf a (withDerived s) ≡ itemOf a s
 unfolding withDerived
 with-names s a = refl
+
+pub with-record : (s : List ℕ) → recordOf (withDerived s) ≡ recordOf s
+unfolding withDerived
+with-record s = refl

@@ -20,9 +20,10 @@ use Rattle.model.specs.Record.{encode, Number, decoded, broken, decodeNu
 use Rattle.model.specs.declared.Errno.the-variants.{Einval}
 use Rattle.model.specs.declared.Refusal.the-variants.{None}
 use Rattle.model.specs.Demands.{Stopped, Fresh, Alike}
-use Rattle.model.specs.Calls.{save, restore, call, lentTo, acceptable, checks, refusal, next, handedBack}
+use Rattle.model.specs.Calls.{save, restore, call, describe, refusal, handedBack}
 use Rattle.model.proofs.Numbers.{Bytes, bytes-rest, bytes-join, decode-only, encode-bytes}
-use Rattle.model.proofs.Soundness.{stopped-ready, Ready}
+use Rattle.model.proofs.Soundness.{stopped-ready, Ready, Resting, stopped-resting}
+use Rattle.model.proofs.Derived.{with-record}
 use Rattle.model.proofs.Masks.{SpiWord}
 use Rattle.model.proofs.Refused.{Passed, unrefused, is-granted, refused-or-granted, refused-negative}
 use Rattle.model.proofs.Listed.{Listed, groups, enables, latches, actives, pmr, ctlr, bpr0, bpr1, ap0r, ap1r, igrpen0, igrpen1, control, status, spi-flags, spi-lines, spi-priority, spi-config, spi-route, vcpu-status, vcpu-flags, vcpu-lines, vcpu-priority, vcpu-system, member}
@@ -31,8 +32,9 @@ use Rattle.model.proofs.Cover.{shows, carried, place-inside}
 use Rattle.model.proofs.Puts.{put-item}
 use Rattle.model.proofs.Restores.{fresh-ready, fresh-stopped, may-put}
 use Rattle.model.proofs.Recorded.{same-entries, All, Good, good-entries, loads-record, save-answer, save-hands}
-use Rattle.model.proofs.ReadsBack.{StoppedLike, like-itself, alike-then, alike-back, put-like, ReadsSo, readable-exactly}
+use Rattle.model.proofs.ReadsBack.{RestingLike, derived-like, like-itself, alike-then, alike-back, put-like, ReadsSo, readable-exactly}
 use Rattle.model.proofs.Loaded.{restored-like}
+use Rattle.model.specs.Roles.{withDerived}
 
 -- ---- the order in which the record comes to the places of the state
 
@@ -189,47 +191,47 @@ module _ (t : List ℕ) (ht : Fresh t) where
   rt = fresh-ready t ht
 
   -- a device of the target's set-up has a listed attribute where the target has it
-  names-there : (u : List ℕ) → StoppedLike t u → {a : Attribute} (l : Listed t a) → itemOf a u ≡ namedBy l
-  names-there u h l = let c = carried t u (h .alike) l in names-item u (stopped-ready u (h .stopped)) (c .there) ∙ c .names
+  names-there : (u : List ℕ) → RestingLike t u → {a : Attribute} (l : Listed t a) → itemOf a u ≡ namedBy l
+  names-there u h l = let c = carried t u (h .alike) l in names-item u (h .resting .is-ready) (c .there) ∙ c .names
 
-  reads-there : (u : List ℕ) → StoppedLike t u → {a : Attribute} (l : Listed t a) → entryRead u (attributeOf a) ≡ shown (shapeOf l) (word u (placeOf l))
+  reads-there : (u : List ℕ) → RestingLike t u → {a : Attribute} (l : Listed t a) → entryRead u (attributeOf a) ≡ shown (shapeOf l) (word u (placeOf l))
   unfolding entryRead
-  reads-there u h l = let c = carried t u (h .alike) l in rw (c .place, c .shape) at (reads-place u (stopped-ready u (h .stopped)) (c .there))
+  reads-there u h l = let c = carried t u (h .alike) l in rw (c .place, c .shape) at (reads-place u (h .resting .is-ready) (c .there))
 
   -- it stores one word, which reads as the number, in every such device that still has the target's word there
   record Stores {a : Attribute} (l : Listed t a) (v : ℕ) : Type 0 where
     stored : ℕ
     reads : shown (shapeOf l) stored ≡ v
-    puts : (s : List ℕ) → StoppedLike t s → word s (placeOf l) ≡ word t (placeOf l) → entryPut s (attributeOf a) v ≡ set s (placeOf l) stored
+    puts : (s : List ℕ) → RestingLike t s → word s (placeOf l) ≡ word t (placeOf l) → entryPut s (attributeOf a) v ≡ set s (placeOf l) stored
 
   stores : {a : Attribute} (l : Listed t a) (v : ℕ) → readable t (attributeOf a) v ≡ true → Stores l v
   unfolding ReadsSo entryPut
-  stores {a} l v can = let so = readable-exactly t ht a (member t rt l) v .0 can in by (so .0) (record { stopped = so .1; alike = so .2 }) (so .3)
+  stores {a} l v can = let so = readable-exactly t ht a (member t rt l) v .0 can in by (so .0) (so .1) (record { resting = stopped-resting _ (so .1); alike = so .2 }) (so .3)
     where
       -- the word of a device that reads so
-      by : (d : List ℕ) → StoppedLike t d → entryRead d (attributeOf a) ≡ v → Stores l v
-      by d hd e = record { stored = word d (placeOf l); reads = value; puts = put }
+      by : (d : List ℕ) → Stopped d → RestingLike t d → entryRead d (attributeOf a) ≡ v → Stores l v
+      by d sd hd e = record { stored = word d (placeOf l); reads = value; puts = put }
         where
           value : shown (shapeOf l) (word d (placeOf l)) ≡ v
           value = sym (reads-there d hd l) ∙ e
 
-          put : (s : List ℕ) → StoppedLike t s → word s (placeOf l) ≡ word t (placeOf l) → itemWrite s (itemOf a s) v ≡ set s (placeOf l) (word d (placeOf l))
+          put : (s : List ℕ) → RestingLike t s → word s (placeOf l) ≡ word t (placeOf l) → itemWrite s (itemOf a s) v ≡ set s (placeOf l) (word d (placeOf l))
           put s hs old =
               let c = carried t d (hd .alike) l in
               let same = alike-back t d (hd .alike) in
               let clear : word s (placeOf (c .there)) ≡ word t (placeOf (c .there)) = rw (c .place) old in
-              let p = put-item d s (stopped-ready d (hd .stopped)) (stopped-ready s (hs .stopped)) (alike-then d t s same (hs .alike)) (c .there) (may-put d t (hd .stopped) ht same (c .there) _ (inr clear)) in
+              let p = put-item d s (hd .resting .is-ready) (hs .resting .is-ready) (alike-then d t s same (hs .alike)) (c .there) (may-put d t sd ht same (c .there) _ (inr clear)) in
               rw (names-there s hs l, ← value) (rw (c .place, c .shape, c .names) at p)
 
   -- ---- the record as a whole
 
-  module _ (u : List ℕ) (hu : StoppedLike t u) (hi : ℕ) where
+  module _ (u : List ℕ) (hu : RestingLike t u) (hi : ℕ) where
     -- the bytes are what the device u has for these entries, and at places whose turn is before lo it has the words of s
     record Back (lo : ℕ) (es : List Entry) (bytes s : List ℕ) : Type 0 where
       same : bytes ≡ entryBytes u es
       kept : (p : ℕ) → turn p < lo → word u p ≡ word s p
 
-    back : (es : List Entry) (lo : ℕ) (bytes s : List ℕ) → Rising t lo hi es → Bytes bytes → StoppedLike t s → ((p : ℕ) → lo ≤ turn p → word s p ≡ word t p)
+    back : (es : List Entry) (lo : ℕ) (bytes s : List ℕ) → Rising t lo hi es → Bytes bytes → RestingLike t s → ((p : ℕ) → lo ≤ turn p → word s p ≡ word t p)
         → load t es bytes s ≡ done u → Back lo es bytes s
     unfolding load entryBytes entryRead entryPut readable
     back [] lo [] s r b h n q = let e : u ≡ s = cc in record { same = refl; kept = λ p l. rw e }
@@ -248,9 +250,9 @@ module _ (t : List ℕ) (ht : Fresh t) where
         let other : (k : ℕ) → ¬ (k ≡ p) → word (set s p (w .stored)) k ≡ word s k = λ k z. getD-set-other s p k (w .stored) 0 z in
         let i =
         back es (suc (r .1)) (f .rest) (set s p (w .stored)) (r .4) (bytes-rest (encode (f .number)) (f .rest) (rw (f .made) at b))
-        (subst (StoppedLike t) put (put-like t s h (r .0) (f .number)))
+        (subst (RestingLike t) put (put-like t s h (r .0) (f .number)))
         (λ k m. other k (λ z. omega (arith, ap turn z)) ∙ n k (omega arith)) (rw put at (f .loads)) in
-        let here : word u p ≡ w .stored = i .kept p (omega arith) ∙ getD-set-same s p (w .stored) 0 (omega (arith, place-inside t rt (r .0), stopped-ready s (h .stopped) .size)) in
+        let here : word u p ≡ w .stored = i .kept p (omega arith) ∙ getD-set-same s p (w .stored) 0 (omega (arith, place-inside t rt (r .0), h .resting .is-ready .size)) in
         let reads : entryRead u (attributeOf a) ≡ f .number = reads-there u hu (r .0) ∙ ap (shown (shapeOf (r .0))) here ∙ w .reads in
         record {
           same = f .made ∙ ap₂ (λ v y. encode v ++ y) (sym reads) (i .same);
@@ -262,7 +264,7 @@ pub record-back : (t bytes s : List ℕ) → Fresh t → Bytes bytes → restore
 unfolding restored recordOf
 record-back t bytes s ht b e =
     let h = restored-like t (fresh-stopped t ht) bytes s e in
-    rw (same-entries t s (h .alike)) (sym (back t ht s h _ (entries t) 0 bytes t (rising-entries t (fresh-ready t ht)) b (like-itself t (fresh-stopped t ht)) (λ p l. refl) e .same))
+    rw (same-entries t s (h .alike)) (sym (back t ht s h _ (entries t) 0 bytes t (rising-entries t (fresh-ready t ht)) b (like-itself t (stopped-resting t (fresh-stopped t ht))) (λ p l. refl) e .same))
 
 -- ---- a device has exactly one record
 
@@ -285,28 +287,30 @@ module _ (s : List ℕ) (h : Stopped s) where
   record-bytes = entry-bytes (entries s) (good-entries s rs)
 
 -- the record of a stopped device is bytes, and of all bytes a fresh target of its set-up reads these alone as that device
-pub one-record : (t s : List ℕ) → Fresh t → Stopped s → Alike s t → Bytes (recordOf s) × ((bytes : List ℕ) → Bytes bytes → (restored t bytes ≡ done s) ↔ (bytes ≡ recordOf s))
-one-record t s ht hs same = (record-bytes s hs, λ bytes b. (λ e. sym (record-back t bytes s ht b e), λ e. rw e (loads-record s t hs ht same)))
+pub one-record : (t s : List ℕ) → Fresh t → Stopped s → Alike s t
+    → Bytes (recordOf s) × ((bytes : List ℕ) → Bytes bytes → ((u : List ℕ) × (restored t bytes ≡ done u) × (withDerived u ≡ s)) ↔ (bytes ≡ recordOf s))
+one-record t s ht hs same =
+    (record-bytes s hs, λ bytes b. (λ e. sym (ap recordOf (sym (e .2)) ∙ with-record (e .0) ∙ record-back t bytes (e .0) ht b (e .1)), λ e. rw e (loads-record s t hs ht same)))
 
 -- ---- as calls: what restore takes, save hands back
 
 -- restore answers 0 only on a fresh device, and leaves what the record says
 record Taken (t bytes : List ℕ) : Type 0 where
   target : Fresh t
-  loads : restored t bytes ≡ done (call (restore bytes) t .state)
+  read : List ℕ
+  loads : restored t bytes ≡ done read
+  state : call (restore bytes) t .state ≡ withDerived read
 
 taken : (t bytes : List ℕ) → call (restore bytes) t .answer ≡ pos 0 → Taken t bytes
-unfolding lentTo acceptable checks next faults loadedState
+unfolding describe faults loadedState
 taken t bytes a = ⊎-elim granted (λ r. let z : _≡_ {A = ℕ} 0 1 = cc (refused-negative (restore bytes) t (r .0) (r .1)) in absurd (omega arith)) (refused-or-granted (restore bytes) t)
   where
     granted : refusal (restore bytes) t ≡ None → Taken t bytes
-    granted g =
-        let p = unrefused (restore bytes) t g in
-        record { target = record { is-sound = p .0; is-fresh = p .1 .1 .0 }; loads = step (restored t bytes) refl (p .1 .1 .1) }
+    granted g = let p = unrefused (restore bytes) t g in step (restored t bytes) refl (record { is-sound = p .0; is-fresh = p .1 .1 .0 }) (p .1 .1 .1)
       where
-        step : (l : Loaded) → restored t bytes ≡ l → Passed (faults l) → restored t bytes ≡ done (call (restore bytes) t .state)
-        step (done u) e h = e ∙ ap done (sym (is-granted (restore bytes) t g .state ∙ rw e))
-        step (fault n) e h = absurd (true≢false (sym (h .0)))
+        step : (l : Loaded) → restored t bytes ≡ l → Fresh t → Passed (faults l) → Taken t bytes
+        step (done u) e f h = record { target = f; read = u; loads = e; state = is-granted (restore bytes) t g .state ∙ rw e }
+        step (fault n) e f h = absurd (true≢false (sym (h .0)))
 
 -- restore of some bytes and then save, into any buffer that is long enough: save answers their number, and hands back the same bytes
 pub record SavesBack (t bytes buf : List ℕ) : Type 0 where
@@ -317,8 +321,8 @@ pub record SavesBack (t bytes buf : List ℕ) : Type 0 where
 pub saves-back : (t bytes buf : List ℕ) → Bytes bytes → call (restore bytes) t .answer ≡ pos 0 → length bytes ≤ length buf → SavesBack t bytes buf
 saves-back t bytes buf b a room =
     let k = taken t bytes a in
-    let s = call (restore bytes) t .state in
-    let hs = restored-like t (fresh-stopped t (k .target)) bytes s (k .loads) .stopped in
-    let e = record-back t bytes s (k .target) b (k .loads) in
+    let s = withDerived (k .read) in
+    let hs = derived-like t (k .read) (restored-like t (fresh-stopped t (k .target)) bytes (k .read) (k .loads)) .0 in
+    let e : recordOf s ≡ bytes = with-record (k .read) ∙ record-back t bytes (k .read) (k .target) b (k .loads) in
     let fits : length (recordOf s) ≤ length buf = rw e room in
-    record { saves = save-answer s buf hs fits ∙ ap (λ (r : List ℕ). pos (length r)) e; hands = save-hands s buf hs fits ∙ e }
+    record { saves = rw (k .state) (save-answer s buf hs fits ∙ ap (λ (r : List ℕ). pos (length r)) e); hands = rw (k .state) (save-hands s buf hs fits ∙ e) }
