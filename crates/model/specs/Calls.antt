@@ -189,25 +189,25 @@ pub record Description : Type 0 where
   pub state : List ℕ
   pub left : List (List ℕ)
 
--- lent a device alone, it answers a number
-abbrev pub answers : ℕ → List ℕ → List Check → Description
-answers x s tests = record { acceptable = sound s; lent = []; tests = tests; answer = x; state = s; left = [] }
+-- lent a device alone, after its tests it answers a number
+abbrev pub answers : List ℕ → List Check → ℕ → Description
+answers s tests x = record { acceptable = sound s; lent = []; tests = tests; answer = x; state = s; left = [] }
 
--- lent a device alone, it answers 0 and leaves another state
-abbrev pub leaves : List ℕ → List ℕ → List Check → Description
-leaves t s tests = record { acceptable = sound s; lent = []; tests = tests; answer = 0; state = t; left = [] }
+-- lent a device alone, after its tests it answers 0 and leaves another state
+abbrev pub leaves : List ℕ → List Check → List ℕ → Description
+leaves s tests t = record { acceptable = sound s; lent = []; tests = tests; answer = 0; state = t; left = [] }
 
 unfoldable pub describe : Call → List ℕ → Description
 -- of words of any content, and the right length
 describe make s = record { acceptable = eqb (length s) stateLength; lent = []; tests = []; answer = 0; state = made; left = [] }
-describe (addVcpu a) s = leaves (vcpuAdded s (vcpus s) a) s ((not (isInitialised s), Ebusy) ∷ (isAffinity a, Einval) ∷ (unused s a (vcpus s), Eexist) ∷ (ltb (vcpus s) mostVcpus, Enomem) ∷ [])
-describe (setRunning v on) s = leaves (set s (runningAt v) (val on)) s (vcpuChecks Initialised v s)
-describe (changeLine v id level) s = leaves (lineChanged s v id level) s (phase Changing s ∷ (hasLine s v id, Einval) ∷ [])
-describe (querySignal v) s = answers (signal s v) s (vcpuChecks Initialised v s)
-describe (readDistributor v off size) s = answers (guestRead s view.Distributor off size) s (guestChecks Initialised v s)
-describe (writeDistributor v off size x) s = leaves (guestWrite s view.Distributor off size x) s (guestChecks Changing v s)
-describe (readFrame v f off size) s = answers (guestRead s (view.Frame f) off size) s (frameChecks Initialised v f s)
-describe (writeFrame v f off size x) s = leaves (guestWrite s (view.Frame f) off size x) s (frameChecks Changing v f s)
+describe (addVcpu a) s = leaves s ((not (isInitialised s), Ebusy) ∷ (isAffinity a, Einval) ∷ (unused s a (vcpus s), Eexist) ∷ (ltb (vcpus s) mostVcpus, Enomem) ∷ []) (vcpuAdded s (vcpus s) a)
+describe (setRunning v on) s = leaves s (vcpuChecks Initialised v s) (set s (runningAt v) (val on))
+describe (changeLine v id level) s = leaves s (phase Changing s ∷ (hasLine s v id, Einval) ∷ []) (lineChanged s v id level)
+describe (querySignal v) s = answers s (vcpuChecks Initialised v s) (signal s v)
+describe (readDistributor v off size) s = answers s (guestChecks Initialised v s) (guestRead s view.Distributor off size)
+describe (writeDistributor v off size x) s = leaves s (guestChecks Changing v s) (guestWrite s view.Distributor off size x)
+describe (readFrame v f off size) s = answers s (frameChecks Initialised v f s) (guestRead s (view.Frame f) off size)
+describe (writeFrame v f off size x) s = leaves s (frameChecks Changing v f s) (guestWrite s (view.Frame f) off size x)
 describe (readSystem v e) s = record {
   acceptable = sound s;
   lent = [];
@@ -216,9 +216,9 @@ describe (readSystem v e) s = record {
   state = systemReadState (system e) v s;
   left = [];
 }
-describe (writeSystem v e x) s = leaves (systemWriteState (system e) v x s) s (guestChecks Changing v s ++ writeChecks (system e))
-describe (getAttribute g a) s = answers (getValue (groupOf g) a s) s (getChecks (groupOf g) a s)
-describe (setAttribute g a x) s = leaves (setState (groupOf g) a x s) s (setChecks (groupOf g) a x s)
+describe (writeSystem v e x) s = leaves s (guestChecks Changing v s ++ writeChecks (system e)) (systemWriteState (system e) v x s)
+describe (getAttribute g a) s = answers s (getChecks (groupOf g) a s) (getValue (groupOf g) a s)
+describe (setAttribute g a x) s = leaves s (setChecks (groupOf g) a x s) (setState (groupOf g) a x s)
 describe (save buf) s = record {
   acceptable = sound s;
   lent = buf ∷ [];
