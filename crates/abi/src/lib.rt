@@ -1,4 +1,4 @@
-// The public calls for C: numbers and slices only. Each hands on to the call of vgic that has its name, with the same promise.
+// The public calls for C: numbers and slices only. Each hands on to the call of `calls` that has its name, with the same promise.
 use state::Mpidr;
 use state::VcpuIndex;
 ghost use mathlib.Core.List.{[]};
@@ -11,7 +11,7 @@ ghost use Rattle.model.specs.Calls.{Does, call, make, addVcpu, setRunning, chan
 pub extern "C" fn vgic_make(state: &mut [u32]) -> i64
     ensures { λ r. ⌜ Does (call make (now (state .entry))) r (now (state .exit)) [] ⌝ }
 {
-    vgic::make(state)
+    calls::make(state)
 }
 
 // Adds a vCPU with an affinity of its own.
@@ -19,7 +19,7 @@ pub extern "C" fn vgic_make(state: &mut [u32]) -> i64
 pub extern "C" fn vgic_add_vcpu(state: &mut [u32], mpidr: u32) -> i64
     ensures { λ r. ⌜ Does (call (addVcpu mpidr) (now (state .entry))) r (now (state .exit)) [] ⌝ }
 {
-    vgic::add_vcpu(state, Mpidr(mpidr))
+    calls::add_vcpu(state, Mpidr(mpidr))
 }
 
 // Marks a vCPU as running, or as stopped.
@@ -27,7 +27,7 @@ pub extern "C" fn vgic_add_vcpu(state: &mut [u32], mpidr: u32) -> i64
 pub extern "C" fn vgic_set_running(state: &mut [u32], v: usize, on: bool) -> i64
     ensures { λ r. ⌜ Does (call (setRunning v on) (now (state .entry))) r (now (state .exit)) [] ⌝ }
 {
-    vgic::set_running(state, VcpuIndex(v), on)
+    calls::set_running(state, VcpuIndex(v), on)
 }
 
 // ---- the guest's accesses to memory-mapped registers, by the vCPU `v`
@@ -37,7 +37,7 @@ pub extern "C" fn vgic_set_running(state: &mut [u32], v: usize, on: bool) -> i64
 pub extern "C" fn vgic_read_distributor(state: &[u32], v: usize, offset: u64, size: u64) -> i64
     ensures { λ r. ⌜ Does (call (readDistributor v offset size) (now (state .entry))) r (now (state .entry)) [] ⌝ }
 {
-    vgic::read_distributor(state, VcpuIndex(v), offset, size)
+    calls::read_distributor(state, VcpuIndex(v), offset, size)
 }
 
 // Writes `size` bytes of the distributor.
@@ -51,7 +51,7 @@ pub extern "C" fn vgic_write_distributor(
 ) -> i64
     ensures { λ r. ⌜ Does (call (writeDistributor v offset size value) (now (state .entry))) r (now (state .exit)) [] ⌝ }
 {
-    vgic::write_distributor(state, VcpuIndex(v), offset, size, value)
+    calls::write_distributor(state, VcpuIndex(v), offset, size, value)
 }
 
 // Reads `size` bytes of the redistributor frame of a vCPU.
@@ -65,7 +65,7 @@ pub extern "C" fn vgic_read_frame(
 ) -> i64
     ensures { λ r. ⌜ Does (call (readFrame v frame offset size) (now (state .entry))) r (now (state .entry)) [] ⌝ }
 {
-    vgic::read_frame(state, VcpuIndex(v), VcpuIndex(frame), offset, size)
+    calls::read_frame(state, VcpuIndex(v), VcpuIndex(frame), offset, size)
 }
 
 // Writes `size` bytes of the redistributor frame of a vCPU.
@@ -80,7 +80,7 @@ pub extern "C" fn vgic_write_frame(
 ) -> i64
     ensures { λ r. ⌜ Does (call (writeFrame v frame offset size value) (now (state .entry))) r (now (state .exit)) [] ⌝ }
 {
-    vgic::write_frame(state, VcpuIndex(v), VcpuIndex(frame), offset, size, value)
+    calls::write_frame(state, VcpuIndex(v), VcpuIndex(frame), offset, size, value)
 }
 
 // ---- the guest's accesses to system registers, by the vCPU `v`, and its signal
@@ -90,7 +90,7 @@ pub extern "C" fn vgic_write_frame(
 pub extern "C" fn vgic_read_system(state: &mut [u32], v: usize, encoding: u64) -> i64
     ensures { λ r. ⌜ Does (call (readSystem v encoding) (now (state .entry))) r (now (state .exit)) [] ⌝ }
 {
-    vgic::read_system(state, VcpuIndex(v), encoding)
+    calls::read_system(state, VcpuIndex(v), encoding)
 }
 
 // Writes the system register of an encoding.
@@ -98,7 +98,7 @@ pub extern "C" fn vgic_read_system(state: &mut [u32], v: usize, encoding: u64) -
 pub extern "C" fn vgic_write_system(state: &mut [u32], v: usize, encoding: u64, value: u64) -> i64
     ensures { λ r. ⌜ Does (call (writeSystem v encoding value) (now (state .entry))) r (now (state .exit)) [] ⌝ }
 {
-    vgic::write_system(state, VcpuIndex(v), encoding, value)
+    calls::write_system(state, VcpuIndex(v), encoding, value)
 }
 
 // 1 if IAR1, 2 if IAR0 would give vCPU `v` an interrupt, else 0.
@@ -106,7 +106,7 @@ pub extern "C" fn vgic_write_system(state: &mut [u32], v: usize, encoding: u64, 
 pub extern "C" fn vgic_query_signal(state: &[u32], v: usize) -> i64
     ensures { λ r. ⌜ Does (call (querySignal v) (now (state .entry))) r (now (state .entry)) [] ⌝ }
 {
-    vgic::query_signal(state, VcpuIndex(v))
+    calls::query_signal(state, VcpuIndex(v))
 }
 
 // ---- lines
@@ -116,7 +116,7 @@ pub extern "C" fn vgic_query_signal(state: &[u32], v: usize) -> i64
 pub extern "C" fn vgic_change_line(state: &mut [u32], v: usize, id: usize, level: bool) -> i64
     ensures { λ r. ⌜ Does (call (changeLine v id level) (now (state .entry))) r (now (state .exit)) [] ⌝ }
 {
-    vgic::change_line(state, VcpuIndex(v), id, level)
+    calls::change_line(state, VcpuIndex(v), id, level)
 }
 
 // ---- attributes
@@ -126,7 +126,7 @@ pub extern "C" fn vgic_change_line(state: &mut [u32], v: usize, id: usize, level
 pub extern "C" fn vgic_get_attribute(state: &[u32], group: u64, attribute: u64) -> i64
     ensures { λ r. ⌜ Does (call (getAttribute group attribute) (now (state .entry))) r (now (state .entry)) [] ⌝ }
 {
-    vgic::get_attribute(state, group, attribute)
+    calls::get_attribute(state, group, attribute)
 }
 
 // Sets an attribute of a group: of group 3 the interrupt count; of group 4 the device is initialised.
@@ -139,7 +139,7 @@ pub extern "C" fn vgic_set_attribute(
 ) -> i64
     ensures { λ r. ⌜ Does (call (setAttribute group attribute value) (now (state .entry))) r (now (state .exit)) [] ⌝ }
 {
-    vgic::set_attribute(state, group, attribute, value)
+    calls::set_attribute(state, group, attribute, value)
 }
 
 // ---- the record
@@ -149,7 +149,7 @@ pub extern "C" fn vgic_set_attribute(
 pub extern "C" fn vgic_save(state: &[u32], buf: &mut [u8], result: &mut i64)
     ensures { λ _. ⌜ Does (call (save (now (buf .entry))) (now (state .entry))) (now (result .exit)) (now (state .entry)) (now (buf .exit)) ⌝ }
 {
-    *result = vgic::fill(state, buf);
+    *result = calls::fill(state, buf);
 }
 
 // Restores the device of a record into a fresh one of the same count and affinities.
@@ -157,5 +157,5 @@ pub extern "C" fn vgic_save(state: &[u32], buf: &mut [u8], result: &mut i64)
 pub extern "C" fn vgic_restore(state: &mut [u32], bytes: &[u8]) -> i64
     ensures { λ r. ⌜ Does (call (restore (now (bytes .entry))) (now (state .entry))) r (now (state .exit)) (now (bytes .entry)) ⌝ }
 {
-    vgic::restore(state, bytes)
+    calls::restore(state, bytes)
 }
