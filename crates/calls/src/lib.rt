@@ -6,6 +6,7 @@ use state::Mpidr;
 use state::VcpuIndex;
 ghost use mathlib.Core.Path.{_≡_};
 ghost use mathlib.Core.List.{[]};
+ghost use lib.IntN.{natAbs};
 ghost use Rattle.model.specs.Refusals.{errno, number};
 ghost use Rattle.model.specs.Calls.{Does, call, make, addVcpu, setRunning, changeLine, readDistributor, writeDistributor, readFrame, writeFrame, readSystem, writeSystem, querySignal, getAttribute, setAttribute, save, restore, Saves};
 
@@ -38,6 +39,16 @@ fn number_of(a: Answer) -> i64
         Answer::Value(v) => v as i64,
         Answer::Refused(e) => 0 - (errno_of(e) as i64),
     }
+}
+
+// How far a number is from 0: of an answer the value, of a refusal its errno.
+pub fn magnitude(r: i64) -> u64
+    ensures { λ m. ⌜ m ≡ natAbs r ⌝ }
+{
+    if r < 0 {
+        return (-1 - r) as u64 + 1;
+    }
+    r as u64
 }
 
 // ---- the calls that set a device up

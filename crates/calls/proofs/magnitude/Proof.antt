@@ -1,4 +1,4 @@
--- `report::magnitude` meets its contract. Of a number y below 0, -1 - y is not negative and below 2 ^ 63.
+-- `calls::magnitude` meets its contract. Of a number y below 0, -1 - y is not negative and below 2 ^ 63.
 use Prim.Native.Nat.{suc, _+_}
 use mathlib.Core.Path.{_≡_, _∙_}
 use mathlib.Core.Bool.{true, false, true≢false}
@@ -13,8 +13,8 @@ use lib.Signed.{ltZ, mag, nonNeg}
 use mir.Syntax.{w64}
 use mir.Val.{Fits, SFits, toZ, ofZ}
 use mir.Facts.{toZ-ofZ, sfits-toZ, fits-ofZ, fits-natAbs}
-use Rattle.report.proofs.magnitude.Statement.{statement}
-use Rattle.report.proofs.magnitude.Tie as tie
+use Rattle.calls.proofs.magnitude.Statement.{statement}
+use Rattle.calls.proofs.magnitude.Tie as tie
 
 not-below : (y : ℤ) → ltZ y (pos 0) ≡ false → T (nonNeg y)
 not-below (pos n) h = tt
