@@ -1,4 +1,4 @@
-// The public calls. Each takes any numbers and any lent words, and promises the answer and the words of its case of `call`.
+// The public calls. Each takes any numbers and any lent words and bytes, and promises `Does` of its case of `call`: its answer, words and bytes. `save`, which hands back a part of its buffer, promises `Saves`.
 use model::Answer;
 use model::Errno;
 use record::save::front_length;

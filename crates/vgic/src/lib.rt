@@ -1,4 +1,4 @@
-// The public calls for C: numbers and slices only. Each hands on to the call of `calls` that has its name, with the same promise.
+// The public calls for C: numbers and slices only. Each hands on to the function of `calls` that has its name, `vgic_save` to `fill`, and promises the same: `Does` of its case of `call`.
 use state::Mpidr;
 use state::VcpuIndex;
 ghost use mathlib.Core.List.{[]};
