@@ -1,4 +1,4 @@
-/* The virtual GICv3 for C and C++: the calls of libabi.a, the names of registers and attributes, and the refusals.
+/* The virtual GICv3 for C and C++: the calls of libvgic.a, the names of registers and attributes, and the refusals.
  *
  * A device is a buffer of VGIC_STATE_WORDS words of 32 bits that the caller owns and lends to each call; a call keeps no pointer to it and there is no other state.
  * Of every call but vgic_save the result is an answer from 0 up, or minus an errno of this file; vgic_save leaves the same kind of number in *result.

@@ -3,8 +3,8 @@
 
     compare.py [SEED] [LINES] [DEVICES]
 
-Builds the crate `abi` (rt staticlib) and tests/driver.c, which makes the calls
-of libabi.a.  The driver and xdrill.py get the same lines: some that visit every
+Builds the crate `vgic` (rt staticlib) and tests/driver.c, which makes the calls
+of libvgic.a.  The driver and xdrill.py get the same lines: some that visit every
 offset, every encoding by attribute, every priority at every binary point and
 running level, and chains of preemption; records saved into buffers of every
 length, and restored whole and damaged at every place into devices of every kind
@@ -23,7 +23,7 @@ Ends with status 1 at the first difference, and shows the line; with status 2 if
 something is missing or cannot be built.
 
     ORACLE   the folder of gen.py and xdrill.py (../shared/oracle, from the repository)
-    LIBRARY  a libabi.a to compare in place of the one that rt builds
+    LIBRARY  a libvgic.a to compare in place of the one that rt builds
 """
 
 import collections
@@ -368,8 +368,8 @@ def build():
     os.makedirs(MADE, exist_ok=True)
     library = os.environ.get("LIBRARY")
     if not library:
-        run_tool("rt", "staticlib", "abi", cwd=ROOT)
-        library = os.path.join(ROOT, "target", "staticlib", "libabi.a")
+        run_tool("rt", "staticlib", "vgic", cwd=ROOT)
+        library = os.path.join(ROOT, "target", "staticlib", "libvgic.a")
     driver = os.path.join(MADE, "driver")
     source = os.path.join(ROOT, "tests", "driver.c")
     run_tool("cc", "-O2", "-Wall", "-Wextra", "-o", driver, source, library)

@@ -1,4 +1,4 @@
-/* Makes the calls of libabi.a that standard input names, a line each, and prints what the Python model xdrill prints for that line.
+/* Makes the calls of libvgic.a that standard input names, a line each, and prints what the Python model xdrill prints for that line.
  * Lines are well-formed: tests/compare.py makes them. Beside xdrill's words:
  *   rrw V F OFF SIZE, wrw V F OFF SIZE VAL   a frame's accesses of any size
  *   words                                    every word of the state that is not zero

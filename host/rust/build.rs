@@ -10,13 +10,13 @@ fn main() {
         None => PathBuf::from(env::var_os("CARGO_MANIFEST_DIR").expect("cargo names the crate"))
             .join("../../target/staticlib"),
     };
-    let archive = folder.join("libabi.a");
+    let archive = folder.join("libvgic.a");
     println!("cargo:rerun-if-changed={}", archive.display());
     assert!(
         archive.is_file(),
-        "no {}: `rt staticlib abi` writes it, VGIC_LIB_DIR names another folder",
+        "no {}: `rt staticlib vgic` writes it, VGIC_LIB_DIR names another folder",
         archive.display()
     );
     println!("cargo:rustc-link-search=native={}", folder.display());
-    println!("cargo:rustc-link-lib=static=abi");
+    println!("cargo:rustc-link-lib=static=vgic");
 }

@@ -65,14 +65,20 @@ fn run(state: &mut [u32], command: Command) -> i64
     ensures { λ r. ⌜ Does (call (callOf command) (now (state .entry))) r (now (state .exit)) [] ⌝ }
 {
     match command {
-        Command::Irqs(n) => vgic::set_attribute(state, 3, 0, n),
-        Command::Vcpu(a) => vgic::add_vcpu(state, Mpidr(a)),
-        Command::Init => vgic::set_attribute(state, 4, 0, 0),
-        Command::Run(v, on) => vgic::set_running(state, VcpuIndex(v), on),
-        Command::Dr(v, offset) => vgic::read_distributor(state, VcpuIndex(v), offset, 4),
-        Command::Dw(v, offset, x) => vgic::write_distributor(state, VcpuIndex(v), offset, 4, x),
-        Command::Rr(v, f, offset) => vgic::read_frame(state, VcpuIndex(v), VcpuIndex(f), offset, 4),
-        Command::Rw(v, f, offset, x) => vgic::write_frame(
+        Command::Irqs(n) => calls::set_attribute(state, 3, 0, n),
+        Command::Vcpu(a) => calls::add_vcpu(state, Mpidr(a)),
+        Command::Init => calls::set_attribute(state, 4, 0, 0),
+        Command::Run(v, on) => calls::set_running(state, VcpuIndex(v), on),
+        Command::Dr(v, offset) => calls::read_distributor(state, VcpuIndex(v), offset, 4),
+        Command::Dw(v, offset, x) => calls::write_distributor(state, VcpuIndex(v), offset, 4, x),
+        Command::Rr(v, f, offset) => calls::read_frame(
+            state,
+            VcpuIndex(v),
+            VcpuIndex(f),
+            offset,
+            4,
+        ),
+        Command::Rw(v, f, offset, x) => calls::write_frame(
             state,
             VcpuIndex(v),
             VcpuIndex(f),
@@ -80,10 +86,10 @@ fn run(state: &mut [u32], command: Command) -> i64
             4,
             x,
         ),
-        Command::Sr(v, encoding) => vgic::read_system(state, VcpuIndex(v), encoding),
-        Command::Sw(v, encoding, x) => vgic::write_system(state, VcpuIndex(v), encoding, x),
-        Command::Line(v, id, level) => vgic::change_line(state, VcpuIndex(v), id, level),
-        Command::Sig(v) => vgic::query_signal(state, VcpuIndex(v)),
+        Command::Sr(v, encoding) => calls::read_system(state, VcpuIndex(v), encoding),
+        Command::Sw(v, encoding, x) => calls::write_system(state, VcpuIndex(v), encoding, x),
+        Command::Line(v, id, level) => calls::change_line(state, VcpuIndex(v), id, level),
+        Command::Sig(v) => calls::query_signal(state, VcpuIndex(v)),
     }
 }
 

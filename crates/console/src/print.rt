@@ -1,5 +1,5 @@
 // The answers: `ok`, a read's hex, or `-` and errno in decimal.
-use report::magnitude;
+use calls::magnitude;
 ghost use mathlib.Core.Path.{_≡_};
 ghost use mathlib.Core.List.{_++_};
 ghost use Prim.Native.Nat.{_+_, _≤_, _<_};

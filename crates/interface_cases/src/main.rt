@@ -78,15 +78,15 @@ const IGRPEN1: u64 = 0xc667;
 fn call(s: &mut [u32; 1760], row: [u64; 4]) -> i64 {
     let v = VcpuIndex(row[1] as usize);
     match row[0] {
-        READ => vgic::read_system(s, v, row[2]),
-        WRITE => vgic::write_system(s, v, row[2], row[3]),
-        SIGNAL => vgic::query_signal(s, v),
-        LINE => vgic::change_line(s, v, row[2] as usize, row[3] == 1),
-        GICD => vgic::write_distributor(s, v, row[2], 4, row[3]),
-        GICR => vgic::write_frame(s, v, v, row[2], 4, row[3]),
-        SPI_PRIORITY => vgic::write_distributor(s, v, row[2], 1, row[3]),
-        OWN_PRIORITY => vgic::write_frame(s, v, v, row[2], 1, row[3]),
-        _ => vgic::set_running(s, v, row[2] == 1),
+        READ => calls::read_system(s, v, row[2]),
+        WRITE => calls::write_system(s, v, row[2], row[3]),
+        SIGNAL => calls::query_signal(s, v),
+        LINE => calls::change_line(s, v, row[2] as usize, row[3] == 1),
+        GICD => calls::write_distributor(s, v, row[2], 4, row[3]),
+        GICR => calls::write_frame(s, v, v, row[2], 4, row[3]),
+        SPI_PRIORITY => calls::write_distributor(s, v, row[2], 1, row[3]),
+        OWN_PRIORITY => calls::write_frame(s, v, v, row[2], 1, row[3]),
+        _ => calls::set_running(s, v, row[2] == 1),
     }
 }
 
@@ -128,12 +128,12 @@ fn steps(name: &[u8], s: &mut [u32; 1760], table: &[[u64; 4]]) {
 // A device before initialising: the vCPUs 0 to 3 have the affinities 1, 0, abcd0f and abcd00.
 fn added(count: u64) -> [u32; 1760] {
     let mut s = [0u32; 1760];
-    vgic::make(&mut s);
-    vgic::set_attribute(&mut s, 3, 0, count);
-    vgic::add_vcpu(&mut s, Mpidr(1));
-    vgic::add_vcpu(&mut s, Mpidr(0));
-    vgic::add_vcpu(&mut s, Mpidr(0x00ab_cd0f));
-    vgic::add_vcpu(&mut s, Mpidr(0x00ab_cd00));
+    calls::make(&mut s);
+    calls::set_attribute(&mut s, 3, 0, count);
+    calls::add_vcpu(&mut s, Mpidr(1));
+    calls::add_vcpu(&mut s, Mpidr(0));
+    calls::add_vcpu(&mut s, Mpidr(0x00ab_cd0f));
+    calls::add_vcpu(&mut s, Mpidr(0x00ab_cd00));
     s
 }
 
@@ -156,7 +156,7 @@ const READY: [[u64; 4]; 13] = [
 
 fn device(count: u64) -> [u32; 1760] {
     let mut s = added(count);
-    vgic::set_attribute(&mut s, 4, 0, 0);
+    calls::set_attribute(&mut s, 4, 0, 0);
     quiet(&mut s, &READY);
     s
 }

@@ -35,16 +35,16 @@ pub enum View {
     Frame(usize),
 }
 
-// The registers with one bit for each of 32 interrupts. Lines is attribute group 7.
+// The registers with one bit for each of 32 interrupts, with their names in the manual: the distributor's, then the frame's.
 pub enum Flags {
-    Group,
-    SetEnable,
-    ClearEnable,
-    SetPending,
-    ClearPending,
-    SetActive,
-    ClearActive,
-    Lines,
+    Group, // GICD_IGROUPR, GICR_IGROUPR0
+    SetEnable, // GICD_ISENABLER, GICR_ISENABLER0
+    ClearEnable, // GICD_ICENABLER, GICR_ICENABLER0
+    SetPending, // GICD_ISPENDR, GICR_ISPENDR0
+    ClearPending, // GICD_ICPENDR, GICR_ICPENDR0
+    SetActive, // GICD_ISACTIVER, GICR_ISACTIVER0
+    ClearActive, // GICD_ICACTIVER, GICR_ICACTIVER0
+    Lines, // no register: attribute group 7
 }
 
 // Who reads or writes.
@@ -68,19 +68,19 @@ pub enum Rule {
     Clears,
 }
 
-// The memory-mapped registers.
+// The memory-mapped registers. Fixed are the words of a frame that read as a constant.
 pub enum Register {
-    Fixed(u32),
-    Control,
-    Typer,
-    Iidr,
-    Status,
-    Bits(Flags),
-    Priority,
-    Config,
-    Route,
-    FrameTyper,
-    FrameAffinity,
+    Fixed(u32), // GICR_CTLR, GICR_WAKER, GICR_ICFGR0, GICR_ICFGR1
+    Control, // GICD_CTLR
+    Typer, // GICD_TYPER
+    Iidr, // GICD_IIDR, GICR_IIDR
+    Status, // GICD_STATUSR, GICR_STATUSR
+    Bits(Flags), // those of `Flags`
+    Priority, // GICD_IPRIORITYR, GICR_IPRIORITYR
+    Config, // GICD_ICFGR
+    Route, // GICD_IROUTER
+    FrameTyper, // GICR_TYPER, low word
+    FrameAffinity, // GICR_TYPER, high word
 }
 
 // What an offset decodes to: a register and the number of its word, or nothing.
@@ -91,27 +91,27 @@ pub enum Decoded {
 
 // The system registers for guest and attribute, both ways. A number is the interrupt group.
 pub enum Plain {
-    Pmr,
-    Bpr(usize),
-    Apr(usize),
-    Ctlr,
-    Sre,
-    Igrpen(usize),
+    Pmr, // ICC_PMR_EL1
+    Bpr(usize), // ICC_BPR0_EL1, ICC_BPR1_EL1
+    Apr(usize), // ICC_AP0R0_EL1, ICC_AP1R0_EL1
+    Ctlr, // ICC_CTLR_EL1
+    Sre, // ICC_SRE_EL1
+    Igrpen(usize), // ICC_IGRPEN0_EL1, ICC_IGRPEN1_EL1
 }
 
 // The system registers that a guest only reads.
 pub enum Readable {
-    Iar(usize),
-    Hppir(usize),
-    Rpr,
+    Iar(usize), // ICC_IAR0_EL1, ICC_IAR1_EL1
+    Hppir(usize), // ICC_HPPIR0_EL1, ICC_HPPIR1_EL1
+    Rpr, // ICC_RPR_EL1
 }
 
 // The system registers that a guest only writes.
 pub enum Writable {
-    Eoir(usize),
-    Dir,
-    Sgi1r,
-    Sgi0r,
+    Eoir(usize), // ICC_EOIR0_EL1, ICC_EOIR1_EL1
+    Dir, // ICC_DIR_EL1
+    Sgi1r, // ICC_SGI1R_EL1
+    Sgi0r, // ICC_SGI0R_EL1
 }
 
 // What an encoding names.

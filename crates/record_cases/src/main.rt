@@ -50,14 +50,14 @@ fn filled(buf: &[u8]) -> usize {
 // A device before initialising: vCPU 0 has affinity 0.
 fn added(count: u64) -> [u32; 1760] {
     let mut s = [0u32; 1760];
-    vgic::make(&mut s);
-    vgic::set_attribute(&mut s, 3, 0, count);
-    vgic::add_vcpu(&mut s, Mpidr(0));
+    calls::make(&mut s);
+    calls::set_attribute(&mut s, 3, 0, count);
+    calls::add_vcpu(&mut s, Mpidr(0));
     s
 }
 
 fn initialise(s: &mut [u32; 1760]) {
-    vgic::set_attribute(s, 4, 0, 0);
+    calls::set_attribute(s, 4, 0, 0);
 }
 
 fn fresh(count: u64) -> [u32; 1760] {
@@ -67,19 +67,19 @@ fn fresh(count: u64) -> [u32; 1760] {
 }
 
 fn run(s: &mut [u32; 1760], on: bool) {
-    vgic::set_running(s, VcpuIndex(0), on);
+    calls::set_running(s, VcpuIndex(0), on);
 }
 
 // The level of SPI 2a.
 fn line(s: &mut [u32; 1760], level: bool) {
-    vgic::change_line(s, VcpuIndex(0), 0x2a, level);
+    calls::change_line(s, VcpuIndex(0), 0x2a, level);
 }
 
 // ---- save
 
 // A save: the answer, how many bytes of the buffer are filled, and those from 66 on.
 fn fill(s: &[u32; 1760], buf: &mut [u8]) {
-    say_signed(vgic::fill(s, buf));
+    say_signed(calls::fill(s, buf));
     say(b", filled ");
     say_decimal(filled(buf) as u64);
     say(b":");
@@ -90,7 +90,7 @@ fn fill(s: &[u32; 1760], buf: &mut [u8]) {
 // A save that hands the front part back: the result, the part's length, the part, and how many bytes of the buffer are filled.
 fn hand_back(s: &[u32; 1760], buf: &mut [u8]) {
     let mut result: i64 = 1;
-    let front = vgic::save(s, buf, &mut result);
+    let front = calls::save(s, buf, &mut result);
     say_signed(result);
     say(b", front ");
     say_decimal(front.len() as u64);
@@ -151,7 +151,7 @@ fn fresh_record() -> [u8; 84] {
 // The answer, and the words that changed.
 fn restore(s: &mut [u32; 1760], bytes: &[u8]) {
     let before = *s;
-    say_signed(vgic::restore(s, bytes));
+    say_signed(calls::restore(s, bytes));
     say_changed(s, &before);
     say(b";");
 }
@@ -340,11 +340,11 @@ fn round_trip(name: &[u8], s: &[u32; 1760]) {
     let mut buf = [0u8; 96];
     let mut t = fresh(64);
     let mut result: i64 = 1;
-    let front = vgic::save(s, &mut buf, &mut result);
+    let front = calls::save(s, &mut buf, &mut result);
     say(name);
     say(b":");
     say_signed(result);
-    say_signed(vgic::restore(&mut t, front));
+    say_signed(calls::restore(&mut t, front));
     say_changed(&t, s);
     say(b"; record");
     say_bytes(&buf, 6, 28);
@@ -354,15 +354,15 @@ fn round_trip(name: &[u8], s: &[u32; 1760]) {
 // ISPENDR of the SPIs 20-3f by attribute, and as the guest reads it.
 fn pending(s: &mut [u32; 1760]) {
     say(b"; ISPENDR");
-    say_answer(vgic::get_attribute(s, 1, 0x204));
+    say_answer(calls::get_attribute(s, 1, 0x204));
     run(s, true);
-    say_answer(vgic::read_distributor(s, VcpuIndex(0), 0x204, 4));
+    say_answer(calls::read_distributor(s, VcpuIndex(0), 0x204, 4));
     say(b"\n");
 }
 
 // A word of the distributor by attribute.
 fn put(s: &mut [u32; 1760], offset: u64, value: u64) {
-    vgic::set_attribute(s, 1, offset, value);
+    calls::set_attribute(s, 1, offset, value);
 }
 
 // Count 64: SPI 2a is enabled and of group 1, and edge where its ICFGR says so. Its line is high.
@@ -395,7 +395,7 @@ fn large() {
     let s = fresh(1024);
     let mut buf = [0u8; 1500];
     say(b"count 400:");
-    say_signed(vgic::fill(&s, &mut buf));
+    say_signed(calls::fill(&s, &mut buf));
     say(b";");
     say_bytes(&buf, 0, 7);
     say(b"\n");

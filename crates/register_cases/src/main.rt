@@ -29,28 +29,28 @@ fn say_row(row: [u64; 4]) {
 // A device before initialising: the vCPUs 0, 1 and 2 have the affinities 1, 0 and abcd0f.
 fn added(count: u64) -> [u32; 1760] {
     let mut s = [0u32; 1760];
-    vgic::make(&mut s);
-    vgic::set_attribute(&mut s, 3, 0, count);
-    vgic::add_vcpu(&mut s, Mpidr(1));
-    vgic::add_vcpu(&mut s, Mpidr(0));
-    vgic::add_vcpu(&mut s, Mpidr(0x00ab_cd0f));
+    calls::make(&mut s);
+    calls::set_attribute(&mut s, 3, 0, count);
+    calls::add_vcpu(&mut s, Mpidr(1));
+    calls::add_vcpu(&mut s, Mpidr(0));
+    calls::add_vcpu(&mut s, Mpidr(0x00ab_cd0f));
     s
 }
 
 // That device initialised, with f in each STATUSR.
 fn device(count: u64) -> [u32; 1760] {
     let mut s = added(count);
-    vgic::set_attribute(&mut s, 4, 0, 0);
-    vgic::set_attribute(&mut s, 1, 0x10, 0xf);
-    vgic::set_attribute(&mut s, 5, 0x1_0000_0010, 0xf);
-    vgic::set_attribute(&mut s, 5, 0x10, 0xf);
-    vgic::set_attribute(&mut s, 5, 0x00ab_cd0f_0000_0010, 0xf);
+    calls::set_attribute(&mut s, 4, 0, 0);
+    calls::set_attribute(&mut s, 1, 0x10, 0xf);
+    calls::set_attribute(&mut s, 5, 0x1_0000_0010, 0xf);
+    calls::set_attribute(&mut s, 5, 0x10, 0xf);
+    calls::set_attribute(&mut s, 5, 0x00ab_cd0f_0000_0010, 0xf);
     s
 }
 
 // vCPU 1 runs, or stops. It makes every access but those of the table of refusals.
 fn run(s: &mut [u32], on: bool) {
-    vgic::set_running(s, VcpuIndex(1), on);
+    calls::set_running(s, VcpuIndex(1), on);
 }
 
 // ---- calls
@@ -63,15 +63,15 @@ enum Place {
 
 fn read(s: &[u32], at: Place, offset: u64, size: u64) -> i64 {
     match at {
-        Place::Distributor => vgic::read_distributor(s, VcpuIndex(1), offset, size),
-        Place::Frame(f) => vgic::read_frame(s, VcpuIndex(1), VcpuIndex(f), offset, size),
+        Place::Distributor => calls::read_distributor(s, VcpuIndex(1), offset, size),
+        Place::Frame(f) => calls::read_frame(s, VcpuIndex(1), VcpuIndex(f), offset, size),
     }
 }
 
 fn write(s: &mut [u32], at: Place, offset: u64, size: u64, value: u64) -> i64 {
     match at {
-        Place::Distributor => vgic::write_distributor(s, VcpuIndex(1), offset, size, value),
-        Place::Frame(f) => vgic::write_frame(s, VcpuIndex(1), VcpuIndex(f), offset, size, value),
+        Place::Distributor => calls::write_distributor(s, VcpuIndex(1), offset, size, value),
+        Place::Frame(f) => calls::write_frame(s, VcpuIndex(1), VcpuIndex(f), offset, size, value),
     }
 }
 
@@ -203,9 +203,9 @@ fn guest_case(count: u64, at: Place, row: [u64; 4]) -> [u32; 1760] {
 // Attributes are set to the row's words, and got. `high` is an affinity in bits 63-32.
 fn attribute_case(count: u64, group: u64, high: u64, row: [u64; 4]) -> [u32; 1760] {
     let mut s = device(count);
-    vgic::set_attribute(&mut s, group, high | row[0], row[1]);
-    say_refusal(vgic::set_attribute(&mut s, group, high | row[2], row[3]));
-    say_answer(vgic::get_attribute(&s, group, high | row[2]));
+    calls::set_attribute(&mut s, group, high | row[0], row[1]);
+    say_refusal(calls::set_attribute(&mut s, group, high | row[2], row[3]));
+    say_answer(calls::get_attribute(&s, group, high | row[2]));
     s
 }
 
@@ -385,8 +385,8 @@ fn access_row(count: u64, at: Place, group: u64, high: u64, row: [u64; 4]) {
     if (row[2] == 4) & (row[1] < 0x1_0000_0000) {
         let after = s;
         say(b";");
-        say_answer(vgic::get_attribute(&s, group, high | row[1]));
-        say_answer(vgic::set_attribute(&mut s, group, high | row[1], row[3]));
+        say_answer(calls::get_attribute(&s, group, high | row[1]));
+        say_answer(calls::set_attribute(&mut s, group, high | row[1], row[3]));
         say_changed(&s, &after);
     }
 }
@@ -420,11 +420,11 @@ const SYSTEM: [[u64; 4]; 19] = [
 fn system_row(row: [u64; 4]) {
     let mut s = device(64);
     let number = (row[0] << 32) | row[1];
-    say_refusal(vgic::set_attribute(&mut s, 6, number, row[2]));
+    say_refusal(calls::set_attribute(&mut s, 6, number, row[2]));
     let before = s;
-    say_answer(vgic::get_attribute(&s, 6, number));
-    say_answer(vgic::set_attribute(&mut s, 6, number, row[3]));
-    say_answer(vgic::get_attribute(&s, 6, number));
+    say_answer(calls::get_attribute(&s, 6, number));
+    say_answer(calls::set_attribute(&mut s, 6, number, row[3]));
+    say_answer(calls::get_attribute(&s, 6, number));
     say_changed(&s, &before);
 }
 
@@ -549,24 +549,24 @@ fn phase_case(kind: Kind, state: [u32; 1760], row: [u64; 4]) {
         Kind::Guest => {
             let v = VcpuIndex(row[0] as usize);
             let frame = VcpuIndex(row[1] as usize);
-            say_answer(vgic::read_distributor(&s, v, row[2], 4));
-            say_answer(vgic::write_distributor(&mut s, v, row[2], 4, row[3]));
-            say_answer(vgic::read_frame(&s, v, frame, row[2], 4));
-            say_answer(vgic::write_frame(&mut s, v, frame, row[2], 4, row[3]));
+            say_answer(calls::read_distributor(&s, v, row[2], 4));
+            say_answer(calls::write_distributor(&mut s, v, row[2], 4, row[3]));
+            say_answer(calls::read_frame(&s, v, frame, row[2], 4));
+            say_answer(calls::write_frame(&mut s, v, frame, row[2], 4, row[3]));
         }
         Kind::Attributes => {
             let number = (row[1] << 32) | row[2];
-            say_answer(vgic::get_attribute(&s, row[0], number));
-            say_answer(vgic::set_attribute(&mut s, row[0], number, row[3]));
+            say_answer(calls::get_attribute(&s, row[0], number));
+            say_answer(calls::set_attribute(&mut s, row[0], number, row[3]));
         }
         _ => {
-            say_answer(vgic::change_line(
+            say_answer(calls::change_line(
                 &mut s,
                 VcpuIndex(row[0] as usize),
                 row[1] as usize,
                 true,
             ));
-            say_answer(vgic::change_line(
+            say_answer(calls::change_line(
                 &mut s,
                 VcpuIndex(row[2] as usize),
                 row[3] as usize,
@@ -627,19 +627,19 @@ enum Call {
 fn step(s: &mut [u32; 1760], name: &[u8], call: Call) {
     run(s, true);
     let r = match call {
-        Call::Line(id, level) => vgic::change_line(s, VcpuIndex(0), id, level),
+        Call::Line(id, level) => calls::change_line(s, VcpuIndex(0), id, level),
         Call::Write(offset, value) => write(s, Place::Distributor, offset, 4, value),
         Call::Set(group, number, value) => {
             run(s, false);
-            vgic::set_attribute(s, group, number, value)
+            calls::set_attribute(s, group, number, value)
         }
     };
     run(s, false);
     say(name);
     say(b":");
     say_answer(r);
-    say_answer(vgic::get_attribute(s, 7, 0x20));
-    say_answer(vgic::get_attribute(s, 1, 0x204));
+    say_answer(calls::get_attribute(s, 7, 0x20));
+    say_answer(calls::get_attribute(s, 1, 0x204));
     run(s, true);
     say_answer(read(s, Place::Distributor, 0x204, 4));
     say_answer(read(s, Place::Distributor, 0x284, 4));
@@ -692,13 +692,13 @@ fn say_private(s: &mut [u32], name: &[u8], r: i64) {
     say(name);
     say(b":");
     say_answer(r);
-    say_answer(vgic::get_attribute(s, 7, 0x1_0000_0000));
-    say_answer(vgic::get_attribute(s, 7, 0x0));
-    say_answer(vgic::get_attribute(s, 7, 0x00ab_cd0f_0000_0000));
+    say_answer(calls::get_attribute(s, 7, 0x1_0000_0000));
+    say_answer(calls::get_attribute(s, 7, 0x0));
+    say_answer(calls::get_attribute(s, 7, 0x00ab_cd0f_0000_0000));
     say(b";");
-    say_answer(vgic::get_attribute(s, 5, 0x1_0001_0200));
-    say_answer(vgic::get_attribute(s, 5, 0x1_0200));
-    say_answer(vgic::get_attribute(s, 5, 0x00ab_cd0f_0001_0200));
+    say_answer(calls::get_attribute(s, 5, 0x1_0001_0200));
+    say_answer(calls::get_attribute(s, 5, 0x1_0200));
+    say_answer(calls::get_attribute(s, 5, 0x00ab_cd0f_0001_0200));
     say(b";");
     run(s, true);
     say_answer(read(s, Place::Frame(0), 0x1_0200, 4));
@@ -710,22 +710,22 @@ fn say_private(s: &mut [u32], name: &[u8], r: i64) {
 
 fn private_lines() {
     let mut s = device(64);
-    let up = vgic::change_line(&mut s, VcpuIndex(1), 20, true);
+    let up = calls::change_line(&mut s, VcpuIndex(1), 20, true);
     say_private(&mut s, b"PPI 20 of vCPU 1, line up", up);
     run(&mut s, true);
     let clear = write(&mut s, Place::Frame(1), 0x1_0280, 4, 0xffff_ffff);
     run(&mut s, false);
     say_private(&mut s, b"ICPENDR leaves it pending", clear);
-    let lines = vgic::set_attribute(&mut s, 7, 0x00ab_cd0f_0000_0000, 0xffff_ffff);
+    let lines = calls::set_attribute(&mut s, 7, 0x00ab_cd0f_0000_0000, 0xffff_ffff);
     say_private(&mut s, b"group 7 of vCPU 2, SGIs have no line", lines);
-    let latch = vgic::set_attribute(&mut s, 5, 0x1_0001_0200, 0xff00_00ff);
+    let latch = calls::set_attribute(&mut s, 5, 0x1_0001_0200, 0xff00_00ff);
     say_private(&mut s, b"latches of vCPU 0 by attribute", latch);
-    let down = vgic::change_line(&mut s, VcpuIndex(1), 20, false);
+    let down = calls::change_line(&mut s, VcpuIndex(1), 20, false);
     say_private(&mut s, b"PPI 20 of vCPU 1, line down", down);
-    let last = vgic::set_running(&mut s, VcpuIndex(2), true);
+    let last = calls::set_running(&mut s, VcpuIndex(2), true);
     say_private(&mut s, b"vCPU 2 runs, attributes are refused", last);
-    vgic::set_running(&mut s, VcpuIndex(2), false);
-    let first = vgic::set_running(&mut s, VcpuIndex(0), true);
+    calls::set_running(&mut s, VcpuIndex(2), false);
+    let first = calls::set_running(&mut s, VcpuIndex(0), true);
     say_private(&mut s, b"vCPU 0 runs, attributes are refused", first);
 }
 

@@ -1,7 +1,5 @@
 // What the programs of cases print: texts, numbers, answers, and words of the state.
 use libc::STDOUT_FILENO;
-ghost use mathlib.Core.Path.{_≡_};
-ghost use lib.IntN.{natAbs};
 
 pub fn say(text: &[u8]) {
     io::write_all(STDOUT_FILENO, text);
@@ -18,24 +16,15 @@ pub fn say_hex(n: u64) {
     io::print_hex(STDOUT_FILENO, n, 1);
 }
 
-// How far a number is from 0.
-pub fn magnitude(r: i64) -> u64
-    ensures { λ m. ⌜ m ≡ natAbs r ⌝ }
-{
-    if r < 0 {
-        return (-1 - r) as u64 + 1;
-    }
-    r as u64
-}
-
 // A space, and a refusal or an answer in decimal.
 pub fn say_signed(r: i64) {
     if r < 0 {
         say(b" -");
+        say_decimal((-1 - r) as u64 + 1);
     } else {
         say(b" ");
+        say_decimal(r as u64);
     }
-    say_decimal(magnitude(r));
 }
 
 // A space, and the answer: what is read in hex, or the refusal in decimal.
@@ -43,7 +32,7 @@ pub fn say_answer(r: i64) {
     if r < 0 {
         say_signed(r);
     } else {
-        say_hex(magnitude(r));
+        say_hex(r as u64);
     }
 }
 

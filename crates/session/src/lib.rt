@@ -57,7 +57,7 @@ fn read_all(from: i32, to: i32, state: &mut [u32], line: &mut [u8]) -> usize
 // Makes a device and runs the lines of the input on it.
 pub fn run(from: i32, to: i32) {
     let mut state = [0u32; 1760];
-    vgic::make(&mut state);
+    calls::make(&mut state);
     let mut line = [0u8; 81];
     let kept = read_all(from, to, &mut state, &mut line);
     let mut out = [0u8; 24];

@@ -28,9 +28,9 @@ fn count_case(value: u64) {
     say(b"count ");
     say_decimal(value);
     say(b":");
-    say_signed(vgic::make(&mut s));
-    say_signed(vgic::set_attribute(&mut s, 3, 0, value));
-    say_signed(vgic::get_attribute(&s, 3, 0));
+    say_signed(calls::make(&mut s));
+    say_signed(calls::set_attribute(&mut s, 3, 0, value));
+    say_signed(calls::get_attribute(&s, 3, 0));
     say(b"\n");
 }
 
@@ -55,38 +55,38 @@ fn counts() {
 fn count_first() {
     let mut s = [0xffff_ffffu32; 1760];
     say(b"count first:");
-    say_signed(vgic::make(&mut s));
-    say_signed(vgic::set_attribute(&mut s, 3, 7, 96));
+    say_signed(calls::make(&mut s));
+    say_signed(calls::set_attribute(&mut s, 3, 7, 96));
     say_add(&mut s, 0);
     say_add(&mut s, 0x0012_340f);
-    say_signed(vgic::set_attribute(&mut s, 4, 0, 5));
+    say_signed(calls::set_attribute(&mut s, 4, 0, 5));
     say_words(&s);
 }
 
 fn vcpus_first() {
     let mut s = [0u32; 1760];
     say(b"vCPUs first:");
-    say_signed(vgic::make(&mut s));
+    say_signed(calls::make(&mut s));
     say_add(&mut s, 0);
     say_add(&mut s, 0x0012_340f);
-    say_signed(vgic::set_attribute(&mut s, 3, 0xffff_ffff_ffff_ffff, 96));
+    say_signed(calls::set_attribute(&mut s, 3, 0xffff_ffff_ffff_ffff, 96));
     say_words(&s);
     say(b"initialised:");
-    say_signed(vgic::set_attribute(&mut s, 4, 0, 0));
+    say_signed(calls::set_attribute(&mut s, 4, 0, 0));
     say_words(&s);
 }
 
 fn no_count() {
     let mut s = [0u32; 1760];
     say(b"no count:");
-    say_signed(vgic::make(&mut s));
+    say_signed(calls::make(&mut s));
     say_add(&mut s, 1);
-    say_signed(vgic::get_attribute(&s, 3, 0));
-    say_signed(vgic::set_attribute(&mut s, 4, 0, 0));
-    say_signed(vgic::get_attribute(&s, 3, 0xffff_ffff));
+    say_signed(calls::get_attribute(&s, 3, 0));
+    say_signed(calls::set_attribute(&mut s, 4, 0, 0));
+    say_signed(calls::get_attribute(&s, 3, 0xffff_ffff));
     say_words(&s);
     say(b"again:");
-    say_signed(vgic::set_attribute(&mut s, 4, 0, 0));
+    say_signed(calls::set_attribute(&mut s, 4, 0, 0));
     say_words(&s);
 }
 
@@ -94,18 +94,18 @@ fn no_count() {
 
 // The answer to adding a vCPU.
 fn say_add(s: &mut [u32], mpidr: u32) {
-    say_signed(vgic::add_vcpu(s, Mpidr(mpidr)));
+    say_signed(calls::add_vcpu(s, Mpidr(mpidr)));
 }
 
 // The answer to marking a vCPU as running.
 fn say_run(s: &mut [u32], v: usize) {
-    say_signed(vgic::set_running(s, VcpuIndex(v), true));
+    say_signed(calls::set_running(s, VcpuIndex(v), true));
 }
 
 fn nine_vcpus() {
     let mut s = [0u32; 1760];
     say(b"nine vCPUs:");
-    say_signed(vgic::make(&mut s));
+    say_signed(calls::make(&mut s));
     say_add(&mut s, 0);
     say_add(&mut s, 0x100);
     say_add(&mut s, 0x200);
@@ -121,7 +121,7 @@ fn nine_vcpus() {
     say_add(&mut s, 0x0f);
     say_words(&s);
     say(b"initialised, all running:");
-    say_signed(vgic::set_attribute(&mut s, 4, 0, 0));
+    say_signed(calls::set_attribute(&mut s, 4, 0, 0));
     say_run(&mut s, 0);
     say_run(&mut s, 1);
     say_run(&mut s, 2);
@@ -160,10 +160,10 @@ fn say_affinity(s: &[u32], v: usize) {
 
 fn lookups() {
     let mut s = [0u32; 1760];
-    vgic::make(&mut s);
-    vgic::add_vcpu(&mut s, Mpidr(0x10f));
-    vgic::add_vcpu(&mut s, Mpidr(0x3));
-    vgic::add_vcpu(&mut s, Mpidr(0x20000));
+    calls::make(&mut s);
+    calls::add_vcpu(&mut s, Mpidr(0x10f));
+    calls::add_vcpu(&mut s, Mpidr(0x3));
+    calls::add_vcpu(&mut s, Mpidr(0x20000));
     say(b"lookup of 3, 10f, 20000, 4:");
     say_index(&s, Mpidr(0x3));
     say_index(&s, Mpidr(0x10f));
@@ -179,7 +179,7 @@ fn lookups() {
 fn refused_adds() {
     let mut s = [0u32; 1760];
     say(b"add: 10, ff, 1000000, ffffffff, ffff0f, again, 10:");
-    vgic::make(&mut s);
+    calls::make(&mut s);
     say_add(&mut s, 0x10);
     say_add(&mut s, 0xff);
     say_add(&mut s, 0x0100_0000);
@@ -189,7 +189,7 @@ fn refused_adds() {
     say_add(&mut s, 0x10);
     say_words(&s);
     say(b"initialised: bad, used, free:");
-    vgic::set_attribute(&mut s, 4, 0, 0);
+    calls::set_attribute(&mut s, 4, 0, 0);
     say_add(&mut s, 0x10);
     say_add(&mut s, 0x00ff_ff0f);
     say_add(&mut s, 1);
@@ -199,50 +199,50 @@ fn refused_adds() {
 fn refused_counts() {
     let mut s = [0u32; 1760];
     say(b"count set: 32, 64, 128:");
-    vgic::make(&mut s);
-    vgic::set_attribute(&mut s, 3, 0, 64);
-    say_signed(vgic::set_attribute(&mut s, 3, 0, 32));
-    say_signed(vgic::set_attribute(&mut s, 3, 0, 64));
-    say_signed(vgic::set_attribute(&mut s, 3, 0, 128));
+    calls::make(&mut s);
+    calls::set_attribute(&mut s, 3, 0, 64);
+    say_signed(calls::set_attribute(&mut s, 3, 0, 32));
+    say_signed(calls::set_attribute(&mut s, 3, 0, 64));
+    say_signed(calls::set_attribute(&mut s, 3, 0, 128));
     say_words(&s);
     say(b"initialised: 32, 64, 128:");
-    vgic::add_vcpu(&mut s, Mpidr(0));
-    vgic::set_attribute(&mut s, 4, 0, 0);
-    say_signed(vgic::set_attribute(&mut s, 3, 0, 32));
-    say_signed(vgic::set_attribute(&mut s, 3, 0, 64));
-    say_signed(vgic::set_attribute(&mut s, 3, 0, 128));
+    calls::add_vcpu(&mut s, Mpidr(0));
+    calls::set_attribute(&mut s, 4, 0, 0);
+    say_signed(calls::set_attribute(&mut s, 3, 0, 32));
+    say_signed(calls::set_attribute(&mut s, 3, 0, 64));
+    say_signed(calls::set_attribute(&mut s, 3, 0, 128));
     say_words(&s);
 }
 
 fn refused_initialise() {
     let mut s = [0u32; 1760];
     say(b"no vCPU: get 0, set 1, set 100000000, set 0:");
-    vgic::make(&mut s);
-    say_signed(vgic::get_attribute(&s, 4, 0));
-    say_signed(vgic::set_attribute(&mut s, 4, 1, 0));
-    say_signed(vgic::set_attribute(&mut s, 4, 0x1_0000_0000, 0));
-    say_signed(vgic::set_attribute(&mut s, 4, 0, 0));
+    calls::make(&mut s);
+    say_signed(calls::get_attribute(&s, 4, 0));
+    say_signed(calls::set_attribute(&mut s, 4, 1, 0));
+    say_signed(calls::set_attribute(&mut s, 4, 0x1_0000_0000, 0));
+    say_signed(calls::set_attribute(&mut s, 4, 0, 0));
     say_words(&s);
     say(b"initialised: get 0, set 1, set 0:");
-    vgic::add_vcpu(&mut s, Mpidr(0));
-    vgic::set_attribute(&mut s, 4, 0, 0);
-    say_signed(vgic::get_attribute(&s, 4, 0));
-    say_signed(vgic::set_attribute(&mut s, 4, 1, 0));
-    say_signed(vgic::set_attribute(&mut s, 4, 0, 0));
+    calls::add_vcpu(&mut s, Mpidr(0));
+    calls::set_attribute(&mut s, 4, 0, 0);
+    say_signed(calls::get_attribute(&s, 4, 0));
+    say_signed(calls::set_attribute(&mut s, 4, 1, 0));
+    say_signed(calls::set_attribute(&mut s, 4, 0, 0));
     say_words(&s);
 }
 
 fn running_flags() {
     let mut s = [0u32; 1760];
     say(b"not initialised: run 0, run 5:");
-    vgic::make(&mut s);
-    vgic::set_attribute(&mut s, 3, 0, 64);
-    vgic::add_vcpu(&mut s, Mpidr(3));
+    calls::make(&mut s);
+    calls::set_attribute(&mut s, 3, 0, 64);
+    calls::add_vcpu(&mut s, Mpidr(3));
     say_run(&mut s, 0);
     say_run(&mut s, 5);
     say_words(&s);
     say(b"initialised: run 0, run 1, run 3, run ffffffffffffffff:");
-    vgic::set_attribute(&mut s, 4, 0, 0);
+    calls::set_attribute(&mut s, 4, 0, 0);
     say_run(&mut s, 0);
     say_run(&mut s, 1);
     say_run(&mut s, 3);
@@ -250,35 +250,35 @@ fn running_flags() {
     say_words(&s);
     say(b"run again, stop, stop again:");
     say_run(&mut s, 0);
-    say_signed(vgic::set_running(&mut s, VcpuIndex(0), false));
-    say_signed(vgic::set_running(&mut s, VcpuIndex(0), false));
+    say_signed(calls::set_running(&mut s, VcpuIndex(0), false));
+    say_signed(calls::set_running(&mut s, VcpuIndex(0), false));
     say_words(&s);
 }
 
 fn run_one_of_three() {
     let mut s = [0u32; 1760];
     say(b"three vCPUs: run 1, run 2, stop 1, stop 0:");
-    vgic::make(&mut s);
-    vgic::set_attribute(&mut s, 3, 0, 64);
-    vgic::add_vcpu(&mut s, Mpidr(0));
-    vgic::add_vcpu(&mut s, Mpidr(1));
-    vgic::add_vcpu(&mut s, Mpidr(2));
-    vgic::set_attribute(&mut s, 4, 0, 0);
+    calls::make(&mut s);
+    calls::set_attribute(&mut s, 3, 0, 64);
+    calls::add_vcpu(&mut s, Mpidr(0));
+    calls::add_vcpu(&mut s, Mpidr(1));
+    calls::add_vcpu(&mut s, Mpidr(2));
+    calls::set_attribute(&mut s, 4, 0, 0);
     say_run(&mut s, 1);
     say_run(&mut s, 2);
-    say_signed(vgic::set_running(&mut s, VcpuIndex(1), false));
-    say_signed(vgic::set_running(&mut s, VcpuIndex(0), false));
+    say_signed(calls::set_running(&mut s, VcpuIndex(1), false));
+    say_signed(calls::set_running(&mut s, VcpuIndex(0), false));
     say_words(&s);
 }
 
 fn eight_initialised() {
     let mut s = eight_vcpus();
-    vgic::set_attribute(&mut s, 4, 0, 0);
+    calls::set_attribute(&mut s, 4, 0, 0);
     say(b"eight, initialised: bad, used, free, get 7:");
     say_add(&mut s, 0x10);
     say_add(&mut s, 0x700);
     say_add(&mut s, 0x0f);
-    say_signed(vgic::get_attribute(&s, 4, 7));
+    say_signed(calls::get_attribute(&s, 4, 7));
     say(b"\n");
 }
 
@@ -290,9 +290,9 @@ fn fault_first() {
     say_add(&mut s, 0x10);
     say_add(&mut s, 0);
     say_run(&mut s, 9);
-    say_signed(vgic::set_attribute(&mut s, 3, 0, 32));
-    say_signed(vgic::set_attribute(&mut s, 4, 1, 0));
-    say_signed(vgic::get_attribute(&s, 4, 7));
+    say_signed(calls::set_attribute(&mut s, 3, 0, 32));
+    say_signed(calls::set_attribute(&mut s, 4, 1, 0));
+    say_signed(calls::get_attribute(&s, 4, 7));
     say_words(&s);
 }
 
@@ -465,12 +465,12 @@ fn same_words(a: &[u32], b: &[u32]) -> bool {
 
 // The answers of every call but make, and whether the words are those of `before`.
 fn say_calls(s: &mut [u32], before: &[u32]) {
-    say_signed(vgic::add_vcpu(s, Mpidr(2)));
-    say_signed(vgic::set_running(s, VcpuIndex(0), true));
-    say_signed(vgic::set_attribute(s, 3, 0, 64));
-    say_signed(vgic::get_attribute(s, 3, 0));
-    say_signed(vgic::set_attribute(s, 4, 0, 0));
-    say_signed(vgic::get_attribute(s, 4, 0));
+    say_signed(calls::add_vcpu(s, Mpidr(2)));
+    say_signed(calls::set_running(s, VcpuIndex(0), true));
+    say_signed(calls::set_attribute(s, 3, 0, 64));
+    say_signed(calls::get_attribute(s, 3, 0));
+    say_signed(calls::set_attribute(s, 4, 0, 0));
+    say_signed(calls::get_attribute(s, 4, 0));
     if same_words(s, before) {
         say(b" kept\n");
     } else {
@@ -494,7 +494,7 @@ fn place_case(state: [u32; 1760], row: [u32; 3]) {
     say_decimal(at as u64);
     say_hex(first as u64);
     say(b":");
-    say_signed(vgic::get_attribute(&s, 3, 0));
+    say_signed(calls::get_attribute(&s, 3, 0));
     store(&mut s, at, second);
     let before = s;
     say_hex(second as u64);
@@ -513,45 +513,45 @@ fn place_cases(state: [u32; 1760], rows: &[[u32; 3]]) {
 // A device of count 64 and one vCPU.
 fn one_vcpu() -> [u32; 1760] {
     let mut s = [0u32; 1760];
-    vgic::make(&mut s);
-    vgic::set_attribute(&mut s, 3, 0, 64);
-    vgic::add_vcpu(&mut s, Mpidr(0));
+    calls::make(&mut s);
+    calls::set_attribute(&mut s, 3, 0, 64);
+    calls::add_vcpu(&mut s, Mpidr(0));
     s
 }
 
 // A device of count 1024 and eight vCPUs.
 fn eight_vcpus() -> [u32; 1760] {
     let mut s = [0u32; 1760];
-    vgic::make(&mut s);
-    vgic::set_attribute(&mut s, 3, 0, 1024);
-    vgic::add_vcpu(&mut s, Mpidr(0));
-    vgic::add_vcpu(&mut s, Mpidr(0x100));
-    vgic::add_vcpu(&mut s, Mpidr(0x200));
-    vgic::add_vcpu(&mut s, Mpidr(0x300));
-    vgic::add_vcpu(&mut s, Mpidr(0x400));
-    vgic::add_vcpu(&mut s, Mpidr(0x500));
-    vgic::add_vcpu(&mut s, Mpidr(0x600));
-    vgic::add_vcpu(&mut s, Mpidr(0x700));
+    calls::make(&mut s);
+    calls::set_attribute(&mut s, 3, 0, 1024);
+    calls::add_vcpu(&mut s, Mpidr(0));
+    calls::add_vcpu(&mut s, Mpidr(0x100));
+    calls::add_vcpu(&mut s, Mpidr(0x200));
+    calls::add_vcpu(&mut s, Mpidr(0x300));
+    calls::add_vcpu(&mut s, Mpidr(0x400));
+    calls::add_vcpu(&mut s, Mpidr(0x500));
+    calls::add_vcpu(&mut s, Mpidr(0x600));
+    calls::add_vcpu(&mut s, Mpidr(0x700));
     s
 }
 
 fn used_words() {
     let mut s = one_vcpu();
-    vgic::set_attribute(&mut s, 4, 0, 0);
+    calls::set_attribute(&mut s, 4, 0, 0);
     say(b"count 64, one vCPU, initialised\n");
     place_cases(s, &USED);
 }
 
 fn whole_words() {
     let mut s = one_vcpu();
-    vgic::set_attribute(&mut s, 4, 0, 0);
+    calls::set_attribute(&mut s, 4, 0, 0);
     say(b"words that may have every bit\n");
     place_cases(s, &WHOLE);
 }
 
 fn full_words() {
     let mut s = eight_vcpus();
-    vgic::set_attribute(&mut s, 4, 0, 0);
+    calls::set_attribute(&mut s, 4, 0, 0);
     say(b"count 1024, eight vCPUs, initialised\n");
     place_cases(s, &FULL);
 }
@@ -568,7 +568,7 @@ fn added_words() {
 
 fn empty_words() {
     let mut s = [0u32; 1760];
-    vgic::make(&mut s);
+    calls::make(&mut s);
     say(b"just made\n");
     place_cases(s, &EMPTY);
 }
@@ -580,7 +580,7 @@ fn length_case(s: &mut [u32], before: &[u32]) {
     say(b"length ");
     say_decimal(s.len() as u64);
     say(b":");
-    say_signed(vgic::make(s));
+    say_signed(calls::make(s));
     say_calls(s, before);
 }
 

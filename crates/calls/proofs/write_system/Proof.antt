@@ -1,0 +1,10 @@
+-- `calls::write_system` meets its contract.
+use Rattle.calls.proofs.Shape.{public}
+use borrow.Author.Needs.{needs}
+use Rattle.calls.proofs.write_system.Statement.{statement}
+use Rattle.calls.proofs.write_system.Tie as tie
+
+pub write-system-spec : {M : Type 1} → statement M
+write-system-spec =
+    tie.close
+    (tie.spec (λ c κs. search needs) (λ c κs. search needs) (λ c. search needs) (λ c. search public))

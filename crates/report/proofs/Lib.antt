@@ -1,0 +1,2 @@
+-- The laws of a signed number that is printed.
+pub mod Signed

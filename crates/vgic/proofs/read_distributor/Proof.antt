@@ -1,8 +1,0 @@
--- `vgic::read_distributor` meets its contract.
-use Rattle.vgic.proofs.Shape.{public}
-use borrow.Author.Needs.{needs}
-use Rattle.vgic.proofs.read_distributor.Statement.{statement}
-use Rattle.vgic.proofs.read_distributor.Tie as tie
-
-pub read-distributor-spec : {M : Type 1} → statement M
-read-distributor-spec = tie.close (tie.spec (λ c κs. search needs) (λ c κs. search needs) (λ c. search public))

@@ -1,8 +1,0 @@
--- `vgic::restore` meets its contract.
-use Rattle.vgic.proofs.Shape.{public}
-use borrow.Author.Needs.{needs}
-use Rattle.vgic.proofs.restore.Statement.{statement}
-use Rattle.vgic.proofs.restore.Tie as tie
-
-pub restore-spec : {M : Type 1} → statement M
-restore-spec = tie.close (tie.spec (λ c κs. search needs) (λ c κs. search needs) (λ c. search needs) (λ c. search public))

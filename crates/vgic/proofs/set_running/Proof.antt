@@ -1,8 +1,0 @@
--- `vgic::set_running` meets its contract.
-use Rattle.vgic.proofs.Shape.{public}
-use borrow.Author.Needs.{needs}
-use Rattle.vgic.proofs.set_running.Statement.{statement}
-use Rattle.vgic.proofs.set_running.Tie as tie
-
-pub set-running-spec : {M : Type 1} → statement M
-set-running-spec = tie.close (tie.spec (λ c κs. search needs) (λ c κs. search needs) (λ c. search needs) (λ c. search public))
