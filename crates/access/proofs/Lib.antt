@@ -1,4 +1,3 @@
 -- The laws of the accesses.
 pub mod Accesses
-pub mod Changes
 pub mod Systems

@@ -1,4 +1,4 @@
--- A guest's read and write of a system register, and the signal query, by their tests: those of every guest's access, then the register's own.
+-- A guest's read and write of a system register by their tests: those of every guest's access, then the register's own.
 use Prim.Native.Nat.{ℕ, _<_}
 use mathlib.Core.Path.{_≡_, refl, sym, _∙_}
 use mathlib.Core.List.{List, [], _∷_, _++_}
@@ -6,7 +6,7 @@ use Rattle.model.specs.Layout.{mostVcpus}
 use Rattle.model.specs.Sound.{sound}
 use Rattle.model.specs.Refusals.{Check, firstFailing, number}
 use Rattle.model.specs.Interface.{system, groupIn}
-use Rattle.model.specs.Calls.{Call, Does, call, aDevice, lentTo, acceptable, lentBytes, filled, vcpuChecks, guestChecks, readChecks, writeChecks, checks, refusal, value, next, readSystem, writeSystem}
+use Rattle.model.specs.Calls.{Call, Does, call, aDevice, lentTo, acceptable, lentBytes, filled, guestChecks, readChecks, writeChecks, checks, refusal, value, next, readSystem, writeSystem}
 use Rattle.model.specs.declared.Errno.{Errno}
 use Rattle.model.specs.declared.Errno.the-variants.{Efault}
 use Rattle.model.specs.declared.Refusal.{Refusal}
@@ -17,9 +17,10 @@ use Rattle.model.specs.declared.SystemRegister.{SystemRegister}
 use Rattle.model.proofs.Decode.{system-group}
 use Rattle.model.proofs.Refused.{none-then, fails-then, refusal-list, refuses, grants}
 use Rattle.state.proofs.Admitted.{admitted}
-use Rattle.interface.specs.Asked.{Usable}
-use Rattle.interface.specs.Answers.{Settled, Reads, Writes}
-use Rattle.interface.proofs.Usable.{usable}
+use Rattle.priority.specs.Asked.{Usable}
+use Rattle.priority.specs.Settled.{Settled}
+use Rattle.system.specs.Answers.{Reads, Writes}
+use Rattle.priority.proofs.Usable.{usable}
 
 -- ---- tests in front of others, in a call on a device
 
@@ -74,7 +75,3 @@ module _ (v : ℕ) (s : List ℕ) (q : Refusal) (p : q ≡ firstFailing ((sound 
 -- the group of a register that an encoding names
 pub encoding-group : (r : SystemRegister) (e : ℕ) → r ≡ system e → groupIn r < 2
 encoding-group r e k = rw k (system-group e)
-
--- the same of the signal query, by what `vcpu_refusal` answers
-pub vcpu-usable : (v : ℕ) (s : List ℕ) (q : Refusal) → q ≡ firstFailing ((sound s, Efault) ∷ vcpuChecks v s) → q ≡ None → Usable s v
-vcpu-usable v s q p h = let d = admitted s q (vcpuChecks v s) p h in usable s v (d .0) (d .1 .0) (d .1 .1 .0)

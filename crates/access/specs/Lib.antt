@@ -1,2 +1,1 @@
--- What the contracts cite beside the definitions of model.
-pub mod Lines
+-- Nothing of its own: the promises cite model.

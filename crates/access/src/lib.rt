@@ -1,8 +1,4 @@
-// The guest's accesses to memory-mapped and system registers, line changes, and the signal query. Each has its refusals in document 01's order, EFAULT first.
-use interface::acknowledge::signal;
-use interface::decode::register_of;
-use interface::read_register;
-use interface::write_register;
+// The guest's accesses to memory-mapped and system registers. Each has its refusals in document 01's order, EFAULT first.
 use model::Answer;
 use model::By;
 use model::Decoded;
@@ -10,11 +6,6 @@ use model::Errno;
 use model::Refusal;
 use model::Register;
 use model::View;
-use model::layout::BANK_LENGTH;
-use model::layout::EDGES;
-use model::layout::INITIALISED;
-use model::layout::LATCH;
-use model::layout::LINE;
 use model::layout::VCPUS;
 use registers::Bytes;
 use registers::decode::register_at;
@@ -23,31 +14,24 @@ use registers::read_word;
 use registers::write_priority;
 use registers::write_word;
 use state::VcpuIndex;
-use state::bank_at;
-use state::is_sound;
-use state::is_spi;
 use state::running_of;
 use state::vcpu_refusal;
-use state::wide;
-use words::byte_at;
+use system::decode::register_of;
+use system::read_register;
+use system::write_register;
 use words::byte_of;
-use words::has_bit;
-use words::with_bit;
+use words::byte_shifted;
 ghost use mathlib.Core.Path.{_≡_};
 ghost use mathlib.Core.List.{[], _∷_};
-ghost use mathlib.Core.Bool.{true, cond};
-ghost use Prim.Native.Nat.{_*_, _%_, _^_, _≤_, _<_};
+ghost use mathlib.Core.Bool.{true};
+ghost use Prim.Native.Nat.{_*_, _%_, _^_, _<_};
 ghost use lib.Dec.{eqb};
-ghost use lib.ListN.{length};
-ghost use Rattle.model.specs.Layout.{stateLength, mostVcpus, vcpus, isInitialised};
-ghost use Rattle.model.specs.Interrupts.{isPrivate};
+ghost use Rattle.model.specs.Layout.{mostVcpus};
 ghost use Rattle.model.specs.Sound.{sound};
 ghost use Rattle.model.specs.Refusals.{firstFailing, number};
 ghost use Rattle.model.specs.Registers.{banks, seenBy, byByte, writePriority, guestRead, guestWrite};
-ghost use Rattle.model.specs.Lines.{lineChanged};
-ghost use Rattle.model.specs.Calls.{Does, call, guestChecks, frameChecks, hasLine, readDistributor, writeDistributor, readFrame, writeFrame, readSystem, writeSystem, changeLine, querySignal};
-ghost use Rattle.model.specs.declared.Errno.the-variants.{Efault, Ebusy, Einval};
-ghost use Rattle.access.specs.Lines.{risesIn, latchedIn, lineIn};
+ghost use Rattle.model.specs.Calls.{Does, call, guestChecks, frameChecks, readDistributor, writeDistributor, readFrame, writeFrame, readSystem, writeSystem};
+ghost use Rattle.model.specs.declared.Errno.the-variants.{Efault};
 
 // ---- refusals
 
@@ -118,7 +102,7 @@ fn write_byte(s: &mut [u32], view: View, k: usize, byte: u32, value: u64)
         view,
         Bytes::One(byte),
         k,
-        byte_at((value % 256) as u32, byte),
+        byte_shifted((value % 256) as u32, byte),
     );
 }
 
@@ -217,100 +201,4 @@ pub fn write_system(s: &mut [u32], v: VcpuIndex, encoding: u64, value: u64) -> A
         return Answer::Refused(e);
     }
     write_register(s, v, register_of(encoding), value)
-}
-
-// ---- the signal
-
-// Whether IAR1 or IAR0 would give vCPU `v` an interrupt, running or not.
-pub fn query_signal(s: &[u32], v: VcpuIndex) -> Answer
-    ensures { λ r. ⌜ Does (call (querySignal (v .0)) (now (s .entry))) (number r) (now (s .entry)) [] ⌝ }
-{
-    if let Refusal::Refuse(e) = vcpu_refusal(s, v) {
-        return Answer::Refused(e);
-    }
-    Answer::Value(signal(s, v))
-}
-
-// ---- line change
-
-// Whether the ID is a PPI of a vCPU that is there, or an SPI, whose line ignores the index.
-fn has_line(s: &[u32], v: VcpuIndex, id: usize) -> bool
-    requires { ⌜ length (now s) ≡ stateLength ⌝ }
-    ensures { λ r. ⌜ r ≡ hasLine (now (s .entry)) (v .0) id ⌝ }
-{
-    if (16 <= id) & (id < 32) {
-        return v.0 < wide(s[VCPUS]);
-    }
-    is_spi(s, id)
-}
-
-// 14 not sound; 16 not initialised; 22 a missing index, or no PPI or SPI.
-fn line_refusal(s: &[u32], v: VcpuIndex, id: usize) -> Refusal
-    ensures { λ r. ⌜ r ≡ firstFailing ((sound (now (s .entry)), Efault) ∷ (isInitialised (now (s .entry)), Ebusy) ∷ (hasLine (now (s .entry)) (v .0) id, Einval) ∷ []) ⌝ }
-{
-    if !is_sound(s) {
-        return Refusal::Refuse(Errno::Efault);
-    }
-    if s[INITIALISED] != 1 {
-        return Refusal::Refuse(Errno::Ebusy);
-    }
-    if !has_line(s, v, id) {
-        return Refusal::Refuse(Errno::Einval);
-    }
-    Refusal::None
-}
-
-// Whether interrupt `i` of a bank is edge, and its line goes 0 to 1.
-fn rises(bank: &[u32], i: u32, level: bool) -> bool
-    requires { ⌜ (length (now bank) ≡ 16) × (i < 32) ⌝ }
-    ensures { λ r. ⌜ r ≡ risesIn (now (bank .entry)) i level ⌝ }
-{
-    has_bit(bank[EDGES + (i / 16) as usize], i % 16) & !has_bit(bank[LINE], i) & level
-}
-
-// Latches interrupt `i` of a bank that is lent, where `on` says so.
-fn put_latch(bank: &mut [u32], i: u32, on: bool)
-    requires { ⌜ (length (now bank) ≡ 16) × (i < 32) ⌝ }
-    ensures { λ _. ⌜ now (bank .exit) ≡ latchedIn (now (bank .entry)) i on ⌝ }
-{
-    if on {
-        bank[LATCH] = with_bit(bank[LATCH], i, true);
-    }
-}
-
-// Changes the line of interrupt `i` of a bank that is lent: an edge interrupt going 0 to 1 is latched.
-fn put_line(bank: &mut [u32], i: u32, level: bool)
-    requires { ⌜ (length (now bank) ≡ 16) × (i < 32) ⌝ }
-    ensures { λ _. ⌜ now (bank .exit) ≡ lineIn (now (bank .entry)) i level ⌝ }
-{
-    let on = rises(bank, i, level);
-    put_latch(bank, i, on);
-    bank[LINE] = with_bit(bank[LINE], i, level);
-}
-
-// A vCPU that sees the interrupt: `v` its private ones, an SPI any.
-fn vcpu_for(v: VcpuIndex, id: usize) -> VcpuIndex
-    ensures { λ r. ⌜ r .0 ≡ cond (isPrivate id) (v .0) 0 ⌝ }
-{
-    if id < 32 { v } else { VcpuIndex(0) }
-}
-
-// Changes the line of interrupt `id`.
-fn write_line(s: &mut [u32], v: VcpuIndex, id: usize, level: bool)
-    requires { ⌜ (length (now s) ≡ stateLength) × (vcpus (now s) ≤ mostVcpus) × (hasLine (now s) (v .0) id ≡ true) ⌝ }
-    ensures { λ _. ⌜ now (s .exit) ≡ lineChanged (now (s .entry)) (v .0) id level ⌝ }
-{
-    let at = bank_at(vcpu_for(v, id), id / 32);
-    put_line(&mut s[at..at + BANK_LENGTH], (id % 32) as u32, level);
-}
-
-// Changes the line of a PPI or SPI.
-pub fn change_line(s: &mut [u32], v: VcpuIndex, id: usize, level: bool) -> Answer
-    ensures { λ r. ⌜ Does (call (changeLine (v .0) id level) (now (s .entry))) (number r) (now (s .exit)) [] ⌝ }
-{
-    if let Refusal::Refuse(e) = line_refusal(s, v, id) {
-        return Answer::Refused(e);
-    }
-    write_line(s, v, id, level);
-    Answer::Value(0)
 }

@@ -26,7 +26,7 @@ use Rattle.model.specs.declared.Item.the-variants.{Mapped, System, Nameless}
 use Rattle.model.proofs.Register as register
 use Rattle.model.proofs.Plain as plain
 use Rattle.model.proofs.Tests.{both}
-use Rattle.interface.specs.Asked.{Usable}
+use Rattle.priority.specs.Asked.{Usable}
 use Rattle.attributes.specs.Names.{Within}
 
 -- ---- an IIDR takes its own value only

@@ -34,8 +34,8 @@ use Rattle.state.specs.Lookup.{found}
 use Rattle.state.specs.declared.VcpuIndex.{VcpuIndex}
 use Rattle.state.specs.declared.Found.{Found}
 use Rattle.state.specs.declared.Found.the-variants.{At, Nowhere}
-use Rattle.interface.specs.Asked.{Usable}
-use Rattle.interface.proofs.Usable.{usable}
+use Rattle.priority.specs.Asked.{Usable}
+use Rattle.priority.proofs.Usable.{usable}
 use Rattle.attributes.specs.Names.{frameWith, placeOf, systemAt, itemAt, Within}
 use Rattle.attributes.specs.declared.Place.{Place}
 use Rattle.attributes.specs.declared.Place.the-variants.{In, NoVcpu}

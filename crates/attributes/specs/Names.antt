@@ -22,7 +22,7 @@ use Rattle.model.specs.declared.Item.{Item}
 use Rattle.model.specs.declared.Item.the-variants.{Mapped, System, Nameless}
 use Rattle.model.specs.declared.RegisterGroup.{RegisterGroup}
 use Rattle.model.specs.declared.RegisterGroup.the-variants.{Distributor, Redistributor, Interface, Lines}
-use Rattle.interface.specs.Asked.{Usable}
+use Rattle.priority.specs.Asked.{Usable}
 use Rattle.attributes.specs.declared.Place.{Place}
 use Rattle.attributes.specs.declared.Place.the-variants.{In, NoVcpu}
 use Rattle.attributes.specs.declared.Named.{Named}

@@ -1,6 +1,4 @@
 // What an attribute names, read and written: a word of a memory-mapped register, or a system register of a vCPU.
-use interface::plain::read_plain;
-use interface::plain::write_plain;
 use model::By;
 use model::Item;
 use model::Plain;
@@ -8,6 +6,8 @@ use model::Register;
 use registers::read_word;
 use registers::write_word;
 use state::VcpuIndex;
+use system::plain::read_plain;
+use system::plain::write_plain;
 ghost use mathlib.Core.Path.{_≡_};
 ghost use mathlib.Core.Bool.{true, _&&_};
 ghost use Prim.Native.Nat.{_^_};

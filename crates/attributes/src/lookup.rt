@@ -1,7 +1,6 @@
 // What an attribute of the groups 1, 5, 6 and 7 names.
 use crate::Named;
 use crate::Place;
-use interface::decode::register_of;
 use model::Decoded;
 use model::Errno;
 use model::Flags;
@@ -17,6 +16,7 @@ use state::Mpidr;
 use state::index_of;
 use state::is_sound;
 use state::is_stopped;
+use system::decode::register_of;
 ghost use mathlib.Core.Path.{_≡_};
 ghost use Prim.Native.Nat.{_≤_};
 ghost use lib.ListN.{length};

@@ -131,7 +131,7 @@ pub fn write_system(state: &mut [u32], v: VcpuIndex, encoding: u64, value: u64) 
 pub fn query_signal(state: &[u32], v: VcpuIndex) -> i64
     ensures { λ r. ⌜ Does (call (querySignal (v .0)) (now (state .entry))) r (now (state .entry)) [] ⌝ }
 {
-    number_of(access::query_signal(state, v))
+    number_of(lines::query_signal(state, v))
 }
 
 // ---- lines
@@ -140,7 +140,7 @@ pub fn query_signal(state: &[u32], v: VcpuIndex) -> i64
 pub fn change_line(state: &mut [u32], v: VcpuIndex, id: usize, level: bool) -> i64
     ensures { λ r. ⌜ Does (call (changeLine (v .0) id level) (now (state .entry))) r (now (state .exit)) [] ⌝ }
 {
-    number_of(access::change_line(state, v, id, level))
+    number_of(lines::change_line(state, v, id, level))
 }
 
 // ---- attributes

@@ -83,12 +83,12 @@ p3 =
     (deviceOk ++ (ok ∷ pos 0x80 ∷ ok ∷ pos 0x80 ∷ pos 0x80 ∷ ok ∷ ok ∷ ok ∷ pos 0x80 ∷ []))
     ∷ []
 
--- priority 0xA0: PMR 0xA0 gives 1023, 0xA8 gives the ID and AP1R 0x00100000; the line is high, so it stays pending
+-- priority 0xA0: PMR 0xA0 gives 1023, 0xA8 gives the ID and AP1R 0x00100000; the line is high, so it stays pending and is given again after its end
 abbrev p4 : List Row
 p4 =
     answer (device 64 ++ (ready 0xa0 3 ++ (changeLine 0 39 true ∷ sr 0xc660 ∷ sr 0xc662 ∷ []))) (deviceOk ++ (readyOk ++ (ok ∷ pos 1023 ∷ pos 39 ∷ [])))
-    ∷ answer (device 64 ++ (ready 0xa8 3 ++ (changeLine 0 39 true ∷ sr 0xc660 ∷ sr 0xc648 ∷ sr 0xc644 ∷ dr 0x304 ∷ dr 0x204 ∷ [])))
-    (deviceOk ++ (readyOk ++ (ok ∷ pos 39 ∷ pos 0x00100000 ∷ ok ∷ pos 0x80 ∷ pos 0x80 ∷ [])))
+    ∷ answer (device 64 ++ (ready 0xa8 3 ++ (changeLine 0 39 true ∷ sr 0xc660 ∷ sr 0xc648 ∷ sr 0xc644 ∷ dr 0x304 ∷ dr 0x204 ∷ sw 0xc661 39 ∷ sr 0xc660 ∷ [])))
+    (deviceOk ++ (readyOk ++ (ok ∷ pos 39 ∷ pos 0x00100000 ∷ ok ∷ pos 0x80 ∷ pos 0x80 ∷ ok ∷ pos 39 ∷ [])))
     ∷ []
 
 -- 0xA0 acknowledged, then 0x98 pending: BPR1 3 or 5 preempts, 6 does not

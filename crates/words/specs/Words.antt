@@ -25,8 +25,8 @@ abbrev pub byteOf : ℕ → ℕ → ℕ
 byteOf w k = w / 2 ^ (8 * k) % 256
 
 -- the word whose byte k is the low byte of x, and no other bit is set
-abbrev pub byteAt : ℕ → ℕ → ℕ
-byteAt x k = x % 256 * 2 ^ (8 * k)
+abbrev pub byteShifted : ℕ → ℕ → ℕ
+byteShifted x k = x % 256 * 2 ^ (8 * k)
 
 -- the mask of byte k
 unfoldable pub byteMask : ℕ → ℕ

@@ -9,7 +9,7 @@ ghost use Prim.Native.Nat.{_*_, _/_, _^_, _<_, _≤_};
 ghost use lib.ListN.{length};
 ghost use Rattle.model.specs.Words.{bit, withBit, spread, lowest};
 ghost use Rattle.model.specs.declared.Rule.the-variants.{Replaces, Sets, Clears};
-ghost use Rattle.words.specs.Words.{under, priorityUnder, byteOf, byteAt, byteMask, collect, pendingWord, pendingIn, rest};
+ghost use Rattle.words.specs.Words.{under, priorityUnder, byteOf, byteShifted, byteMask, collect, pendingWord, pendingIn, rest};
 
 // ---- one bit
 
@@ -78,9 +78,9 @@ pub fn byte_of(w: u32, k: u32) -> u32
 }
 
 // The word whose byte k is the low byte of x, and no other bit is set.
-pub fn byte_at(x: u32, k: u32) -> u32
+pub fn byte_shifted(x: u32, k: u32) -> u32
     requires { ⌜ k < 4 ⌝ }
-    ensures { λ r. ⌜ r ≡ byteAt x k ⌝ }
+    ensures { λ r. ⌜ r ≡ byteShifted x k ⌝ }
 {
     (x % 256) << (8 * k)
 }

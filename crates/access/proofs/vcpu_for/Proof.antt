@@ -1,7 +1,0 @@
--- `access::vcpu_for` meets its contract.
-use Rattle.access.proofs.Changes.{own-seen, any-seen}
-use Rattle.access.proofs.vcpu_for.Statement.{statement}
-use Rattle.access.proofs.vcpu_for.Tie as tie
-
-pub vcpu-for-spec : {M : Type 1} → statement M
-vcpu-for-spec = tie.close (tie.spec (λ c. search own-seen) (λ c. search any-seen))

@@ -1,8 +1,0 @@
--- `interface::sgi::is_target` meets its contract.
-use Rattle.interface.proofs.Sgis.{to-others, to-named}
-use borrow.Author.Needs.{needs}
-use Rattle.interface.proofs.sgi.is_target.Statement.{statement}
-use Rattle.interface.proofs.sgi.is_target.Tie as tie
-
-pub is-target-spec : {M : Type 1} → statement M
-is-target-spec = tie.close (tie.spec (λ c. search to-others) (λ c κs. search needs) (λ c κs. search needs) (λ c. search to-named))

@@ -1,5 +1,0 @@
--- What the contracts cite beside the definitions of model.
-pub mod Asked
-pub mod Search
-pub mod Answers
-pub mod Steps

@@ -1,0 +1,2 @@
+-- The laws of line changes.
+pub mod Changes

@@ -1,0 +1,4 @@
+-- What the contracts cite beside the definitions of model.
+pub mod Asked
+pub mod Search
+pub mod Settled

@@ -1,0 +1,3 @@
+-- What the contracts cite beside the definitions of model.
+pub mod Answers
+pub mod Steps
