@@ -1,9 +1,9 @@
 // The parts of the state that are lent on as `&mut`: a vCPU's block, a bank, a route; their places, and the stores into them.
 use crate::lookup::VcpuIndex;
-use model::layout::BANKS;
 use model::layout::BANK_LENGTH;
-use model::layout::BLOCKS;
+use model::layout::BANKS;
 use model::layout::BLOCK_LENGTH;
+use model::layout::BLOCKS;
 use model::layout::ROUTES;
 use words::with_bit;
 ghost use mathlib.Core.Path.{_≡_};

@@ -7,5 +7,5 @@ use Rattle.state.proofs.parts.store_in.Tie as tie
 pub store-in-spec : {M : Type 1} → statement M
 store-in-spec =
     tie.close
-    (tie.spec (λ c. search needs) (λ c. search needs) (λ c. search needs) (λ c. search needs) (λ c. search needs) 
+    (tie.spec (λ c. search needs) (λ c. search needs) (λ c. search needs) (λ c. search needs) (λ c. search needs)
     (λ c κs. search needs) (λ c. search needs) (λ c. search one-stored))
