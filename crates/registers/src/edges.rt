@@ -51,11 +51,6 @@ pub fn write_config(s: &mut [u32], view: View, k: usize, x: u32)
 {
     let m = edges_meant(s, view, k);
     let old = s[bank_of(view, k / 2) + EDGES + k % 2];
-    put_in_view(
-        s,
-        view,
-        k / 2,
-        EDGES + k % 2,
-        edges_under(old, edges_of(x), m),
-    );
+    let new = edges_under(old, edges_of(x), m);
+    put_in_view(s, view, k / 2, EDGES + k % 2, new);
 }

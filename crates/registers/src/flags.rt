@@ -154,5 +154,6 @@ pub fn write_flags(s: &mut [u32], by: By, view: View, f: Flags, k: usize, x: u32
     let m = flags_meant(s, view, least_of(f), k);
     let field = field_of(f);
     let old = s[bank_of(view, k) + field];
-    put_in_view(s, view, k, field, written_under(rule_for(by, f), old, x, m));
+    let new = written_under(rule_for(by, f), old, x, m);
+    put_in_view(s, view, k, field, new);
 }

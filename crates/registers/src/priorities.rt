@@ -59,11 +59,6 @@ pub fn write_priority(s: &mut [u32], view: View, bytes: Bytes, k: usize, x: u32)
 {
     let m = bytes_named(bytes) & priorities_meant(s, view, k);
     let old = s[bank_of(view, k / 8) + PRIORITIES + k % 8];
-    put_in_view(
-        s,
-        view,
-        k / 8,
-        PRIORITIES + k % 8,
-        priority_under(old, x, m),
-    );
+    let new = priority_under(old, x, m);
+    put_in_view(s, view, k / 8, PRIORITIES + k % 8, new);
 }
