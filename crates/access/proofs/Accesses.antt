@@ -33,7 +33,7 @@ use Rattle.model.proofs.Decode.{decode-words}
 use Rattle.model.proofs.Soundness.{sound-vcpus}
 use Rattle.state.proofs.Admitted.{admitted}
 use Rattle.registers.specs.Words.{names}
-use Rattle.registers.specs.declared.Bytes.the-variants.{One}
+use Rattle.registers.specs.declared.priorities.Bytes.the-variants.{One}
 
 -- ---- IPRIORITYR alone takes one byte
 

@@ -31,9 +31,9 @@ use Rattle.model.proofs.Tests.{both}
 use Rattle.model.proofs.Decode.{decode-words, system-group}
 use Rattle.model.proofs.Soundness.{sound-vcpus}
 use Rattle.state.specs.Lookup.{found}
-use Rattle.state.specs.declared.VcpuIndex.{VcpuIndex}
-use Rattle.state.specs.declared.Found.{Found}
-use Rattle.state.specs.declared.Found.the-variants.{At, Nowhere}
+use Rattle.state.specs.declared.lookup.VcpuIndex.{VcpuIndex}
+use Rattle.state.specs.declared.lookup.Found.{Found}
+use Rattle.state.specs.declared.lookup.Found.the-variants.{At, Nowhere}
 use Rattle.priority.specs.Asked.{Usable}
 use Rattle.priority.proofs.Usable.{usable}
 use Rattle.attributes.specs.Names.{frameWith, placeOf, systemAt, itemAt, Within}

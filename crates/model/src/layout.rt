@@ -58,6 +58,11 @@ pub const BPR0: usize = 21;
 
 pub const BPR1: usize = 22;
 
+// The least values of BPR0 and BPR1; they are the fresh values too.
+pub const LEAST_BPR0: u32 = 2;
+
+pub const LEAST_BPR1: u32 = 3;
+
 pub const AP0R: usize = 23;
 
 pub const AP1R: usize = 24;

@@ -17,7 +17,7 @@ use model::layout::STATUS;
 use model::layout::VCPUS;
 use state::VcpuIndex;
 use state::block_at;
-use words::spread;
+use words::config_of;
 ghost use mathlib.Core.Path.{_≡_};
 ghost use Prim.Native.Nat.{_+_, _≤_, _<_};
 ghost use lib.Dec.{leb};
@@ -66,7 +66,9 @@ fn bank_length(s: &[u32], w: usize) -> usize
 {
     let bank = 256 + BANK_LENGTH * w;
     let flags = words_length(&s[bank..bank + EDGES]);
-    flags + number_length(spread(s[bank + EDGES])) + number_length(spread(s[bank + (EDGES + 1)]))
+    flags
+        + number_length(config_of(s[bank + EDGES]))
+        + number_length(config_of(s[bank + (EDGES + 1)]))
 }
 
 // The banks of all SPI words.

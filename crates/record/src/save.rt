@@ -23,7 +23,7 @@ use state::VcpuIndex;
 use state::block_at;
 use state::is_sound;
 use state::is_stopped;
-use words::spread;
+use words::config_of;
 ghost use mathlib.Core.Path.{_≡_};
 ghost use Prim.Native.Nat.{_+_, _≤_, _<_};
 ghost use lib.ListN.{length};
@@ -93,8 +93,8 @@ fn write_bank(buf: &mut [u8], at: usize, s: &[u32], w: usize) -> usize
 {
     let bank = 256 + BANK_LENGTH * w;
     let low = write_flags(buf, at, s, bank);
-    let high = write_number(buf, low, spread(s[bank + EDGES]));
-    write_number(buf, high, spread(s[bank + (EDGES + 1)]))
+    let high = write_number(buf, low, config_of(s[bank + EDGES]));
+    write_number(buf, high, config_of(s[bank + (EDGES + 1)]))
 }
 
 // The banks of all SPI words.

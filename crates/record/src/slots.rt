@@ -4,7 +4,7 @@ use model::layout::VCPUS;
 use state::VcpuIndex;
 use state::affinity_of;
 use state::ids_below;
-use words::collect;
+use words::edges_of;
 ghost use mathlib.Core.Path.{_≡_};
 ghost use mathlib.Core.Bool.{true};
 ghost use Prim.Native.Nat.{_+_, _≤_, _<_};
@@ -69,7 +69,7 @@ pub fn word_shown(kind: Kind, x: u32) -> u32
     match kind {
         Kind::Within(_) => x,
         Kind::Above(base, _) => x - base,
-        Kind::Edges(_) => collect(x),
+        Kind::Edges(_) => edges_of(x),
         Kind::Point(_) => x,
     }
 }

@@ -1,16 +1,16 @@
 -- A register's word read from the words of its bank, and written to them, as the definitions say it interrupt by interrupt.
-use Prim.Native.Nat.{ℕ, _+_, _*_, _-_, _/_, _%_, _≤_, _<_}
+use Prim.Native.Nat.{ℕ, _+_, _*_, _-_, _/_, _%_, _<_}
 use mathlib.Core.Path.{_≡_, sym, ap, _∙_}
 use mathlib.Core.Bool.{Bool, cond, _&&_, and-comm, and-assoc}
 use mathlib.Core.List.{List}
 use native.Mathlib.Nat.{add-assoc}
 use native.Mathlib.Omega.{arith}
-use borrow.Rule.Slice.PartMut.{midOf, putMid}
+use borrow.Rule.Slice.PartMut.{midOf}
 use lib.Bits.{bitAnd, and-le-r}
 use lib.Dec.{eqb, leb}
-use lib.ListN.{length, set}
+use lib.ListN.{set}
 use Rattle.model.specs.Words.{bit, gather, spread}
-use Rattle.model.specs.Layout.{stateLength, mostVcpus, word, bank}
+use Rattle.model.specs.Layout.{mostVcpus, word, bank}
 use Rattle.model.specs.Interrupts.{flag, edge, priority}
 use Rattle.model.specs.Registers.{banks, flags, shownTo, ruleFor, shows, has, seenBy, readFlags, readPriority, readConfig, writeFlags, writePriority, writeConfig}
 use Rattle.model.specs.declared.By.{By}
@@ -25,9 +25,9 @@ use Rattle.model.proofs.Fields.{banks-most, flag-bit, priority-bit, edge-bit}
 use Rattle.words.specs.Words.{under, priorityUnder, collect}
 use Rattle.words.proofs.Operators.{bit-and}
 use Rattle.words.proofs.Pending.{pending-bit}
-use Rattle.state.proofs.Lending.{at-mid, one-stored}
+use Rattle.state.proofs.Lending.{at-mid}
 use Rattle.registers.specs.Words.{flagsMeant, prioritiesMeant, edgesMeant, shownIn, edgesUnder, names}
-use Rattle.registers.specs.declared.Bytes.{Bytes}
+use Rattle.registers.specs.declared.priorities.Bytes.{Bytes}
 
 -- a bit of word k of IPRIORITYR, and an edge flag of word k of ICFGR, in the bank's word
 of-four : (s : List ℕ) (v k i : ℕ) → i < 32 → bit (priority s v (4 * k + i / 8)) (i % 8) ≡ bit (word s (bank v (k / 8) + 5 + k % 8)) i
@@ -86,42 +86,38 @@ module _ (s : List ℕ) (x : View) (at : ℕ) where
             e,
           )
 
--- ---- writing, through the lent bank
+-- ---- writing
 
-module _ (s last : List ℕ) (x : View) (at : ℕ) (size : length s ≡ stateLength) where
+module _ (s t : List ℕ) (x : View) (at : ℕ) where
   pub writes-flags : (by : By) (f : Flags) (rule : Rule) (field from k value m w : ℕ)
-      → at ≡ bank (seenBy x) k → at + 16 ≤ 768 → rule ≡ ruleFor by (flags f) → field ≡ flags f .field → field < 16 → from ≡ flags f .from
-      → m ≡ flagsMeant s x from k → w ≡ under rule (word s (at + field)) value m → last ≡ set (midOf at (at + 16 - at) s) field w
-      → putMid at (at + 16 - at) s last ≡ writeFlags s x (flags f .field) (flags f .from) (ruleFor by (flags f)) k value
+      → at ≡ bank (seenBy x) k → rule ≡ ruleFor by (flags f) → field ≡ flags f .field → from ≡ flags f .from
+      → m ≡ flagsMeant s x from k → w ≡ under rule (word s (at + field)) value m → t ≡ set s (bank (seenBy x) k + field) w
+      → t ≡ writeFlags s x (flags f .field) (flags f .from) (ruleFor by (flags f)) k value
   unfolding flagsMeant writeFlags under
-  writes-flags by f rule field from k value m w e n a b l d q r p =
-      rw (one-stored at (at + 16) s last field w (omega arith) (omega arith) p, r, ← a, ← b, ← d, e)
+  writes-flags by f rule field from k value m w e a b d q r p =
+      rw (p, r, ← a, ← b, ← d, e)
       (ap (set s (bank (seenBy x) k + field)) (gather-same 32 _ _ (λ i j. rw (q, bit-gather 32 (λ h. has s x (32 * k + h) && leb from (32 * k + h)) i j, flag-bit s (seenBy x) k field i j))))
 
-  pub writes-priority : (bytes : Bytes) (k value b m : ℕ) → at ≡ bank (seenBy x) (k / 8) → at + 16 ≤ 768
-      → b ≡ gather 32 (λ i. names bytes (i / 8)) → m ≡ prioritiesMeant s x k
-      → last ≡ set (midOf at (at + 16 - at) s) (5 + k % 8) (priorityUnder (word (midOf at (at + 16 - at) s) (5 + k % 8)) value (bitAnd b m))
-      → putMid at (at + 16 - at) s last ≡ writePriority s x (names bytes) k value
+  pub writes-priority : (bytes : Bytes) (k value b m w : ℕ) → at ≡ bank (seenBy x) (k / 8)
+      → b ≡ gather 32 (λ i. names bytes (i / 8)) → m ≡ prioritiesMeant s x k → w ≡ priorityUnder (word s (at + 5 + k % 8)) value (bitAnd b m)
+      → t ≡ set s (bank (seenBy x) (k / 8) + (5 + k % 8)) w → t ≡ writePriority s x (names bytes) k value
   unfolding prioritiesMeant writePriority priorityUnder
-  writes-priority bytes k value b m e n q r p =
-      rw (one-stored at (at + 16) s last (5 + k % 8) _ (omega arith) (omega arith) p, at-mid at (at + 16 - at) s (5 + k % 8) (omega arith), e)
-      (rw (← add-assoc (bank (seenBy x) (k / 8)) 5 (k % 8)) (ap (set s (bank (seenBy x) (k / 8) + 5 + k % 8)) (gather-same 32 _ _ at-bit)))
+  writes-priority bytes k value b m w e q r u p =
+      rw (p, u, e) (rw (← add-assoc (bank (seenBy x) (k / 8)) 5 (k % 8)) (ap (set s (bank (seenBy x) (k / 8) + 5 + k % 8)) (gather-same 32 _ _ at-bit)))
     where
       at-bit : (i : ℕ) → i < 32
           → cond (bit (bitAnd b m) i) (leb 3 (i % 8) && bit value i) (bit (word s (bank (seenBy x) (k / 8) + 5 + k % 8)) i)
           ≡ cond (names bytes (i / 8) && has s x (4 * k + i / 8)) (leb 3 (i % 8) && bit value i) (bit (priority s (seenBy x) (4 * k + i / 8)) (i % 8))
       at-bit i l = rw (bit-and b m i, q, r, bit-gather 32 (λ j. names bytes (j / 8)) i l, bit-gather 32 (λ j. has s x (4 * k + j / 8)) i l, of-four s (seenBy x) k i l)
 
-  pub writes-config : (k value m w : ℕ) → at ≡ bank (seenBy x) (k / 2) → at + 16 ≤ 768 → m ≡ edgesMeant s x k → w ≡ collect value
-      → last ≡ set (midOf at (at + 16 - at) s) (13 + k % 2) (edgesUnder (word (midOf at (at + 16 - at) s) (13 + k % 2)) w m)
-      → putMid at (at + 16 - at) s last ≡ writeConfig s x k value
+  pub writes-config : (k value m e w : ℕ) → at ≡ bank (seenBy x) (k / 2) → m ≡ edgesMeant s x k → e ≡ collect value
+      → w ≡ edgesUnder (word s (at + 13 + k % 2)) e m → t ≡ set s (bank (seenBy x) (k / 2) + (13 + k % 2)) w → t ≡ writeConfig s x k value
   unfolding edgesMeant writeConfig edgesUnder collect
-  writes-config k value m w e n q r p =
-      rw (one-stored at (at + 16) s last (13 + k % 2) _ (omega arith) (omega arith) p, at-mid at (at + 16 - at) s (13 + k % 2) (omega arith), e)
-      (rw (← add-assoc (bank (seenBy x) (k / 2)) 13 (k % 2)) (ap (set s (bank (seenBy x) (k / 2) + 13 + k % 2)) (gather-same 16 _ _ at-bit)))
+  writes-config k value m e w h q r u p =
+      rw (p, u, h) (rw (← add-assoc (bank (seenBy x) (k / 2)) 13 (k % 2)) (ap (set s (bank (seenBy x) (k / 2) + 13 + k % 2)) (gather-same 16 _ _ at-bit)))
     where
       at-bit : (i : ℕ) → i < 16
-          → cond (bit m i) (bit w i) (bit (word s (bank (seenBy x) (k / 2) + 13 + k % 2)) i) ≡ cond (has s x (16 * k + i)) (bit value (2 * i + 1)) (edge s (seenBy x) (16 * k + i))
+          → cond (bit m i) (bit e i) (bit (word s (bank (seenBy x) (k / 2) + 13 + k % 2)) i) ≡ cond (has s x (16 * k + i)) (bit value (2 * i + 1)) (edge s (seenBy x) (16 * k + i))
       at-bit i l = rw (q, r, bit-gather 16 (λ j. has s x (16 * k + j)) i l, bit-gather 16 (λ j. bit value (2 * j + 1)) i l, of-sixteen s (seenBy x) k i l)
 
 -- ---- the bank of a view
@@ -134,3 +130,6 @@ bank-inside x k l = omega (arith, banks-most x)
 
 pub view-bank : (x : View) (v k r : ℕ) → r ≡ bank v k → v ≡ seenBy x → r ≡ bank (seenBy x) k
 view-bank x v k r b e = rw (← e) b
+
+pub view-stored : (s t : List ℕ) (x : View) (v k j w : ℕ) → t ≡ set s (bank v k + j) w → v ≡ seenBy x → t ≡ set s (bank (seenBy x) k + j) w
+view-stored s t x v k j w q e = rw (← e) q

@@ -7,7 +7,7 @@ use mathlib.Core.List.{List}
 use native.Mathlib.Omega.{arith}
 use borrow.Author.Tests.{lt-ltb, ltb-true, le-leb}
 use lib.Dec.{leb, ltb}
-use lib.Bits.{bitAnd}
+use lib.Bits.{bitAnd, and-mask}
 use mir.Syntax.{w64}
 use mir.Val.{Fits}
 use Rattle.model.specs.Words.{bit, gather}
@@ -114,9 +114,9 @@ module _ (s : List ℕ) (step : count s % 32 ≡ 0) where
     unfolding flagsMeant
     half i l = rw (e, bit-gather 32 (λ j. has s x (32 * (k / 2) + j) && leb 0 (32 * (k / 2) + j)) i l, le-leb 0 (32 * (k / 2) + i) (omega arith)) (bool.and-true (has s x (32 * (k / 2) + i)))
 
-    pub low-half : k % 2 ≡ 0 → m % 65536 ≡ edgesMeant s x k
+    pub low-half : k % 2 ≡ 0 → bitAnd m 0xffff ≡ edgesMeant s x k
     unfolding edgesMeant
-    low-half z = word-is 16 (m % 65536) _ (omega arith) (λ i l. let q : 32 * (k / 2) + i ≡ 16 * k + i = omega arith in rw (bit-mod 16 m i l, half i (omega arith), q))
+    low-half z = rw (and-mask m 16) (word-is 16 (m % 2 ^ 16) _ (omega arith) (λ i l. let q : 32 * (k / 2) + i ≡ 16 * k + i = omega arith in rw (bit-mod 16 m i l, half i (omega arith), q)))
 
     pub high-half : ¬ (k % 2 ≡ 0) → m / 65536 ≡ edgesMeant s x k
     unfolding edgesMeant flagsMeant

@@ -5,7 +5,8 @@ use mathlib.Core.Bool.{true}
 use mathlib.Core.List.{List}
 use native.Mathlib.Omega.{arith}
 use lib.Dec.{lit<}
-use lib.ListN.{length}
+use lib.Bits.{bitAnd, and-mask}
+use lib.ListN.{length, set}
 use mir.Syntax.{w32}
 use mir.Val.{Fits}
 use Rattle.model.specs.Layout.{stateLength, word, count, affinity}
@@ -15,11 +16,11 @@ use Rattle.model.specs.declared.By.{By}
 use Rattle.model.specs.declared.View.{View}
 use Rattle.model.specs.declared.Flags.{Flags}
 use Rattle.model.specs.declared.Register.{Register}
-use Rattle.model.specs.declared.Register.the-variants.{Status, Bits, Priority, Config, Route, FrameTyper, FrameAffinity}
+use Rattle.model.specs.declared.Register.the-variants.{Control, Status, Bits, Priority, Config, Route, FrameTyper, FrameAffinity}
 use Rattle.model.proofs.Soundness.{sound-length, sound-count}
 use Rattle.model.proofs.Masks.{sound-enables}
 use Rattle.registers.specs.Words.{names}
-use Rattle.registers.specs.declared.Bytes.the-variants.{All}
+use Rattle.registers.specs.declared.priorities.Bytes.the-variants.{All}
 use Rattle.registers.proofs.Banks.{view-inside}
 
 -- ---- a sound state
@@ -74,6 +75,10 @@ module _ (by : By) (s : List ℕ) (x : View) (r : Register) (k : ℕ) where
   pub reads-affinity : (v w : ℕ) → v ≡ seenBy x → w ≡ affinity s v → r ≡ FrameAffinity → w ≡ read by s x r k
   unfolding read
   reads-affinity v w e q h = rw (h, q, e)
+
+  pub writes-control : (value : ℕ) → r ≡ Control → set s 3 (bitAnd value 3) ≡ write by s x r k value
+  unfolding write
+  writes-control value h = rw (h, and-mask value 2)
 
   pub writes-whole : (value : ℕ) (t : List ℕ) → t ≡ writePriority s x (names All) k value → r ≡ Priority → t ≡ write by s x r k value
   unfolding write names

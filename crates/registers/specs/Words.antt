@@ -12,8 +12,8 @@ use Rattle.model.specs.declared.View.{View}
 use Rattle.model.specs.declared.Shown.{Shown}
 use Rattle.model.specs.declared.Shown.the-variants.{Nothing, Flag, Pending}
 use Rattle.words.specs.Words.{pendingIn}
-use Rattle.registers.specs.declared.Bytes.{Bytes}
-use Rattle.registers.specs.declared.Bytes.the-variants.{All, One}
+use Rattle.registers.specs.declared.priorities.Bytes.{Bytes}
+use Rattle.registers.specs.declared.priorities.Bytes.the-variants.{All, One}
 
 -- ---- which interrupts of word k of a register a view has
 

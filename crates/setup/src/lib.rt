@@ -9,10 +9,13 @@ use model::layout::BPR1;
 use model::layout::COUNT;
 use model::layout::EDGES;
 use model::layout::INITIALISED;
+use model::layout::LEAST_BPR0;
+use model::layout::LEAST_BPR1;
 use model::layout::MOST_VCPUS;
 use model::layout::RUNNING;
 use model::layout::STATE_LENGTH;
 use model::layout::VCPUS;
+use model::values::EDGE_BITS;
 use state::Mpidr;
 use state::VcpuIndex;
 use state::block_at;
@@ -66,10 +69,10 @@ fn write_block(b: &mut [u32], mpidr: Mpidr)
     requires { ⌜ length (now b) ≡ 32 ⌝ }
     ensures { λ _. ⌜ now (b .exit) ≡ set (set (set (set (now (b .entry)) 13 0xffff) 16 (mpidr .0)) 21 2) 22 3 ⌝ }
 {
-    b[EDGES] = 0xffff;
+    b[EDGES] = EDGE_BITS;
     b[AFFINITY] = mpidr.0;
-    b[BPR0] = 2;
-    b[BPR1] = 3;
+    b[BPR0] = LEAST_BPR0;
+    b[BPR1] = LEAST_BPR1;
 }
 
 // One vCPU more, the last, its block lent on.

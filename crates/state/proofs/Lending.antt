@@ -1,16 +1,12 @@
 -- A part of the state that is lent on and written: what is stored in the part is stored in the state, the part's start further on.
-use Prim.Native.Nat.{ℕ, _+_, _-_, _/_, _%_, _<_, _≤_}
+use Prim.Native.Nat.{ℕ, _+_, _-_, _<_, _≤_}
 use mathlib.Core.Path.{_≡_, refl, sym, ap, _∙_}
-use mathlib.Core.Bool.{Bool}
 use mathlib.Core.List.{List, [], _∷_, _++_}
 use native.Mathlib.Omega.{arith}
 use native.Mathlib.Nat.{zero-add, suc-add}
 use lib.ListN.{length, getD, set, take, drop, length-take, length-drop, length-set}
 use lib.Seq.{set-append-left, length-take-le, getD-take, getD-drop}
 use borrow.Rule.Slice.PartMut.{midOf, putMid, put-same}
-use Rattle.model.specs.Words.{withBit}
-use Rattle.model.specs.Layout.{stateLength, mostVcpus, word, block, bank}
-use Rattle.model.specs.Interrupts.{setFlag}
 
 -- words stored one after the other: the place and the word of each
 unfoldable pub stores : List (ℕ × ℕ) → List ℕ → List ℕ
@@ -56,18 +52,7 @@ lent a k xs ps h b =
 pub at-mid : (a k : ℕ) (xs : List ℕ) (j : ℕ) → j < k → getD (midOf a k xs) j 0 ≡ getD xs (a + j) 0
 at-mid a k xs j h = getD-take k (drop a xs) j 0 h ∙ getD-drop a xs j 0
 
--- one word stored in a part that ends at e
-pub one-stored : (a e : ℕ) (xs last : List ℕ) (j x : ℕ) → e ≤ length xs → a + j < e → last ≡ set (midOf a (e - a) xs) j x → putMid a (e - a) xs last ≡ set xs (a + j) x
+-- one word stored in a part of n words
+pub one-stored : (a n : ℕ) (xs last : List ℕ) (j x : ℕ) → a + n ≤ length xs → j < n → last ≡ set (midOf a (a + n - a) xs) j x → putMid a (a + n - a) xs last ≡ set xs (a + j) x
 unfolding stores further
-one-stored a e xs last j x l m q = rw (q, lent a (e - a) xs ((j, x) ∷ []) (omega arith) (omega arith, tt))
-
--- ---- the blocks and the banks of a state
-
-module _ (s last : List ℕ) (size : length s ≡ stateLength) (at : ℕ) where
-  pub block-stored : (v j x : ℕ) → v < mostVcpus → j < 32 → at ≡ block v → last ≡ set (midOf at (at + 32 - at) s) j x → putMid at (at + 32 - at) s last ≡ set s (block v + j) x
-  block-stored v j x l m e q = rw (one-stored at (at + 32) s last j x (omega arith) (omega arith) q, e)
-
-  pub flag-stored : (k : ℕ) (on : Bool) (v id : ℕ) → k < 16 → at ≡ bank v (id / 32) → at + 16 ≤ 768
-      → last ≡ set (midOf at (at + 16 - at) s) k (withBit (word (midOf at (at + 16 - at) s) k) (id % 32) on) → putMid at (at + 16 - at) s last ≡ setFlag k on v id s
-  unfolding setFlag
-  flag-stored k on v id l e m q = rw (one-stored at (at + 16) s last k _ (omega arith) (omega arith) q, at-mid at (at + 16 - at) s k (omega arith), e)
+one-stored a n xs last j x l m q = rw (q, lent a (a + n - a) xs ((j, x) ∷ []) (omega arith) (omega arith, tt))

@@ -3,6 +3,7 @@ use model::Rule;
 use model::layout::EDGES;
 use model::layout::LATCH;
 use model::layout::LINE;
+use model::values::PRIORITY_BITS;
 ghost use mathlib.Core.Path.{_≡_};
 ghost use mathlib.Core.Bool.{_||_};
 ghost use Prim.Native.Nat.{_*_, _/_, _^_, _<_, _≤_};
@@ -64,7 +65,7 @@ pub fn written_under(rule: Rule, w: u32, x: u32, m: u32) -> u32
 pub fn priority_under(w: u32, x: u32, m: u32) -> u32
     ensures { λ r. ⌜ r ≡ priorityUnder w x m ⌝ }
 {
-    (w & !m) | (0xf8f8_f8f8 & x & m)
+    (w & !m) | (PRIORITY_BITS & x & m)
 }
 
 // ---- bytes
@@ -96,7 +97,7 @@ pub fn byte_mask(k: u32) -> u32
 // ---- the edge flags of 16 interrupts, and a word of ICFGR
 
 // The word of ICFGR for the edge flags e.
-pub fn spread(e: u32) -> u32
+pub fn config_of(e: u32) -> u32
     ensures { λ r. ⌜ r ≡ spread e ⌝ }
 {
     let mut r: u32 = 0;
@@ -107,7 +108,7 @@ pub fn spread(e: u32) -> u32
 }
 
 // The edge flags in the word x of ICFGR.
-pub fn collect(x: u32) -> u32
+pub fn edges_of(x: u32) -> u32
     ensures { λ r. ⌜ r ≡ collect x ⌝ }
 {
     let mut r: u32 = 0;

@@ -1,6 +1,6 @@
 -- `registers::write_word` meets its contract.
 use Rattle.model.specs.Registers.{write}
-use Rattle.registers.proofs.Requests.{asked, writes-as, writes-whole}
+use Rattle.registers.proofs.Requests.{asked, writes-as, writes-control, writes-whole}
 use borrow.Author.Needs.{needs}
 use Rattle.registers.proofs.write_word.Statement.{statement}
 use Rattle.registers.proofs.write_word.Tie as tie
@@ -11,7 +11,7 @@ write-word-spec =
     (tie.spec (λ c. search needs) (λ c. search asked) (λ c. search needs) (λ c κs. search asked) (λ c. search needs) (λ c κs. search asked)
     (λ c. search needs) (λ c κs. search asked) (λ c. search needs) (λ c κs. search asked) (λ c. search needs) (λ c κs. search asked)
     (λ c. search needs) (λ c. search needs) (λ c. search needs) (λ c. search needs) (λ c. search needs) (λ c. search needs)
-    (λ c. unfold write in (search writes-as)) (λ c. search needs) (λ c. unfold write in (search writes-as)) (λ c. search needs)
+    (λ c. search writes-control) (λ c. search needs) (λ c. unfold write in (search writes-as)) (λ c. search needs)
     (λ c. unfold write in (search writes-as)) (λ c. search needs) (λ c. search writes-whole) (λ c. search needs)
     (λ c. unfold write in (search writes-as)) (λ c. search needs) (λ c. unfold write in (search writes-as))
     (λ c. unfold write in (search writes-as)) (λ c. unfold write in (search writes-as)) (λ c. unfold write in (search writes-as))

@@ -12,7 +12,7 @@ returns c =
     let x = l .before in
     let f = x .before .before .before .before .before in
     let a = f .before .before .before .before in
-    bank-written _ (a .pre .0) _ (a .pre .1) _ _ (a .pre .2) _ _ (f .write-flags .ensures) _ (x .spread .ensures) _ _ (l .write-number .ensures .0) (l .write-number .ensures .1) _ (y .spread2 .ensures) _ _ (h .write-number2 .ensures .0) (h .write-number2 .ensures .1)
+    bank-written _ (a .pre .0) _ (a .pre .1) _ _ (a .pre .2) _ _ (f .write-flags .ensures) _ (x .config-of .ensures) _ _ (l .write-number .ensures .0) (l .write-number .ensures .1) _ (y .config-of2 .ensures) _ _ (h .write-number2 .ensures .0) (h .write-number2 .ensures .1)
 
 pub write-bank-spec : {M : Type 1} → statement M
 write-bank-spec =
