@@ -13,7 +13,7 @@ use Rattle.model.specs.Words.{each, spread}
 use Rattle.model.specs.Layout.{stateLength, mostVcpus, word, block}
 use Rattle.model.specs.Record.{spiWords, spis, encode}
 use Rattle.model.proofs.Numbers.{encode-short}
-use Rattle.record.specs.Slots.{shown, flagBits, priorityBits, bankKind, bankSlot, bankSlots, privateKind, interfaceKind, vcpuSlot, vcpuSlots, routeSlot, run, slots, slotRead, slotBytes}
+use Rattle.record.specs.Slots.{shown, bankFlagBits, bankPriorityBits, bankKind, bankSlot, bankSlots, privateKind, interfaceKind, vcpuSlot, vcpuSlots, routeSlot, run, slots, slotRead, slotBytes}
 use Rattle.record.specs.Written.{wordsBytes, flagsFrom}
 use Rattle.record.specs.declared.slots.Kind.{Kind}
 use Rattle.record.specs.declared.slots.Kind.the-variants.{Within, Above, Point}
@@ -103,7 +103,7 @@ interface-plain j x l =
 
 bank-plain : (t : Bool) (j x : ℕ) → j < 13 → shown (bankKind t j) x ≡ x
 unfolding bankKind
-bank-plain t j x l = rw (lt-ltb j 13 l) (within-or (ltb j 5) (flagBits t) (priorityBits t j) x)
+bank-plain t j x l = rw (lt-ltb j 13 l) (within-or (ltb j 5) (bankFlagBits t) (bankPriorityBits t j) x)
 
 module _ (s : List ℕ) where
   bank-reads : (w j : ℕ) → j < 13 → slotRead s (bankSlot w j) ≡ word s (256 + 16 * w + j)

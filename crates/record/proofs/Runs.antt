@@ -17,7 +17,7 @@ use Rattle.model.specs.declared.Errno.the-variants.{Einval, Ebadmsg}
 use Rattle.model.specs.declared.Refusal.{Refusal}
 use Rattle.model.specs.declared.Refusal.the-variants.{None, Refuse}
 use Rattle.record.specs.Numbers.{Answers}
-use Rattle.record.specs.Slots.{hidden, shows, flagBits, priorityBits, edgeBits, bankKind, bankSlot, bankSlots, privateKind, interfaceKind, vcpuSlot, vcpuSlots, routeSlot, run, slots, headerAt, takes, slotPut, faultOf, Where, Passes}
+use Rattle.record.specs.Slots.{hidden, shows, bankFlagBits, bankPriorityBits, bankEdgeBits, bankKind, bankSlot, bankSlots, privateKind, interfaceKind, vcpuSlot, vcpuSlots, routeSlot, run, slots, headerAt, takes, slotPut, faultOf, Where, Passes}
 use Rattle.record.specs.Loaded.{wordSlots, interfaceSlots, Carries, Loads, Heads, endOf}
 use Rattle.record.specs.declared.load.Step.{Step}
 use Rattle.record.specs.declared.load.Step.the-variants.{At, Fault}
@@ -193,7 +193,7 @@ bank-words : (w : ℕ) → ¬ (w ≡ 31)
     → bankSlots w
     ≡ run (λ j. Word (256 + 16 * w + j) (Within 0xffffffff)) 0 5
     ++ (run (λ j. Word (256 + 16 * w + j) (Within 0xf8f8f8f8)) 5 8 ++ (wordSlots (256 + 16 * w + 13) 1 (Edges 0xaaaaaaaa) ++ wordSlots (256 + 16 * w + 14) 1 (Edges 0xaaaaaaaa)))
-unfolding each bankSlot bankKind flagBits priorityBits edgeBits
+unfolding each bankSlot bankKind bankFlagBits bankPriorityBits bankEdgeBits
 bank-words w n = rw (ne-eqb w 31 n)
 
 bank-runs : (w : ℕ) → ¬ (w ≡ 31)
@@ -204,7 +204,7 @@ bank-runs w n =
     rw (words-from (256 + 16 * w) 0 5 (256 + 16 * w) (Within 0xffffffff) (omega arith), words-from (256 + 16 * w) 5 8 (256 + 16 * w + 5) (Within 0xf8f8f8f8) refl) (bank-words w n)
 
 last-runs : bankSlots 31 ≡ wordSlots 752 5 (Within 0x0fffffff) ++ (wordSlots 757 7 (Within 0xf8f8f8f8) ++ (wordSlots 764 1 (Within 0) ++ (wordSlots 765 1 (Edges 0xaaaaaaaa) ++ wordSlots 766 1 (Edges 0x00aaaaaa))))
-unfolding each bankSlot bankKind flagBits priorityBits edgeBits
+unfolding each bankSlot bankKind bankFlagBits bankPriorityBits bankEdgeBits
 last-runs = refl
 
 interface-words : (p : ℕ)

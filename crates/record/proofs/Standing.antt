@@ -21,7 +21,7 @@ use Rattle.model.proofs.Places.{Shape, itself, edges, above, placeOf, shapeOf}
 use Rattle.model.proofs.Places as places
 use Rattle.model.proofs.Cover as cover
 use Rattle.words.specs.Words.{collect}
-use Rattle.record.specs.Slots.{shown, flagBits, priorityBits, edgeBits, bankKind, bankSlot, bankSlots, privateKind, interfaceKind, vcpuSlot, vcpuSlots, routeSlot, run, slots, headerAt, Sized}
+use Rattle.record.specs.Slots.{shown, bankFlagBits, bankPriorityBits, bankEdgeBits, bankKind, bankSlot, bankSlots, privateKind, interfaceKind, vcpuSlot, vcpuSlots, routeSlot, run, slots, headerAt, Sized}
 use Rattle.record.specs.declared.slots.Kind.{Kind}
 use Rattle.record.specs.declared.slots.Kind.the-variants.{Within, Above, Point}
 use Rattle.record.specs.declared.slots.Slot.{Slot}
@@ -44,17 +44,17 @@ pub data Means (s : List ℕ) : Entry → Slot → Type 0 where
 
 -- the masks of a bank, and of the last one, by one computed test
 bank-masks : allBelow (λ j. eqb (getD bankBits j 0) (maskOf (bankKind false j)) && eqb (getD lastBankBits j 0) (maskOf (bankKind true j))) 15 ≡ true
-unfolding allBelow bankKind flagBits priorityBits edgeBits collect gather bit
+unfolding allBelow bankKind bankFlagBits bankPriorityBits bankEdgeBits collect gather bit
 bank-masks = refl
 
 -- a mask of edge flags has only upper bits
-tidy-edges : (last : Bool) → spread (collect (edgeBits last 14)) ≡ edgeBits last 14
-unfolding edgeBits spread collect gather bit
+tidy-edges : (last : Bool) → spread (collect (bankEdgeBits last 14)) ≡ bankEdgeBits last 14
+unfolding bankEdgeBits spread collect gather bit
 tidy-edges true = refl
 tidy-edges false = refl
 
-tidy-first : (last : Bool) → spread (collect (edgeBits last 13)) ≡ edgeBits last 13
-unfolding edgeBits spread collect gather bit
+tidy-first : (last : Bool) → spread (collect (bankEdgeBits last 13)) ≡ bankEdgeBits last 13
+unfolding bankEdgeBits spread collect gather bit
 tidy-first true = refl
 tidy-first false = refl
 

@@ -26,6 +26,19 @@ use model::layout::PRIORITIES;
 use model::layout::ROUTES;
 use model::layout::STATUS;
 use model::layout::VCPUS;
+use model::values::APR_BITS;
+use model::values::FLAG_BITS;
+use model::values::GICD_CTLR_BITS;
+use model::values::GICD_CTLR_FIXED;
+use model::values::ICC_CTLR_BITS;
+use model::values::ICC_CTLR_FIXED;
+use model::values::LAST_FLAG_BITS;
+use model::values::ONE_BIT;
+use model::values::PMR_BITS;
+use model::values::PPI_BITS;
+use model::values::PRIORITY_BITS;
+use model::values::ROUTE_BITS;
+use model::values::STATUSR_BITS;
 use state::VcpuIndex;
 use state::block_at;
 ghost use mathlib.Core.Path.{_≡_};
@@ -135,8 +148,8 @@ fn load_last_bank(s: &mut [u32], bytes: &[u8], from: Step, store: bool) -> Step
     ensures { λ r. ⌜ Loads (bankSlots 31) (now (bytes .entry)) store from (now (s .entry)) (now (s .exit)) r ⌝ }
 {
     let bank = 256 + BANK_LENGTH * 31;
-    let flags = load_words(s, bytes, from, bank, 5, 0x0fff_ffff, store);
-    let priorities = load_words(s, bytes, flags, bank + PRIORITIES, 7, 0xf8f8_f8f8, store);
+    let flags = load_words(s, bytes, from, bank, 5, LAST_FLAG_BITS, store);
+    let priorities = load_words(s, bytes, flags, bank + PRIORITIES, 7, PRIORITY_BITS, store);
     let absent = load_words(s, bytes, priorities, bank + (PRIORITIES + 7), 1, 0, store);
     let all_edges = Kind::Edges(0xaaaa_aaaa);
     let low = load_word(s, bytes, absent, bank + EDGES, all_edges, store);
@@ -153,8 +166,8 @@ fn load_bank(s: &mut [u32], bytes: &[u8], from: Step, w: usize, store: bool) -> 
         return load_last_bank(s, bytes, from, store);
     }
     let bank = 256 + BANK_LENGTH * w;
-    let flags = load_words(s, bytes, from, bank, 5, 0xffff_ffff, store);
-    let priorities = load_words(s, bytes, flags, bank + PRIORITIES, 8, 0xf8f8_f8f8, store);
+    let flags = load_words(s, bytes, from, bank, 5, FLAG_BITS, store);
+    let priorities = load_words(s, bytes, flags, bank + PRIORITIES, 8, PRIORITY_BITS, store);
     let edges = Kind::Edges(0xaaaa_aaaa);
     let low = load_word(s, bytes, priorities, bank + EDGES, edges, store);
     load_word(s, bytes, low, bank + (EDGES + 1), edges, store)
@@ -180,12 +193,19 @@ fn load_interface(s: &mut [u32], bytes: &[u8], from: Step, p: usize, store: bool
     requires { ⌜ (length (now s) ≡ stateLength) × (p + 27 ≤ stateLength) ⌝ }
     ensures { λ r. ⌜ Loads (interfaceSlots p) (now (bytes .entry)) store from (now (s .entry)) (now (s .exit)) r ⌝ }
 {
-    let pmr = load_words(s, bytes, from, p + PMR, 1, 0xf8, store);
-    let ctlr = load_word(s, bytes, pmr, p + CTLR, Kind::Above(0x400, 2), store);
+    let pmr = load_words(s, bytes, from, p + PMR, 1, PMR_BITS, store);
+    let ctlr = load_word(
+        s,
+        bytes,
+        pmr,
+        p + CTLR,
+        Kind::Above(ICC_CTLR_FIXED, ICC_CTLR_BITS),
+        store,
+    );
     let bpr0 = load_word(s, bytes, ctlr, p + BPR0, Kind::Point(2), store);
     let bpr1 = load_word(s, bytes, bpr0, p + BPR1, Kind::Point(3), store);
-    let active = load_words(s, bytes, bpr1, p + AP0R, 2, 0xffff_ffff, store);
-    load_words(s, bytes, active, p + IGRPEN0, 2, 1, store)
+    let active = load_words(s, bytes, bpr1, p + AP0R, 2, APR_BITS, store);
+    load_words(s, bytes, active, p + IGRPEN0, 2, ONE_BIT, store)
 }
 
 // The block of vCPU `v`: STATUSR, its bank without the edge flags, its CPU interface.
@@ -194,10 +214,10 @@ fn load_vcpu(s: &mut [u32], bytes: &[u8], from: Step, v: VcpuIndex, store: bool)
     ensures { λ r. ⌜ Loads (vcpuSlots (v .0)) (now (bytes .entry)) store from (now (s .entry)) (now (s .exit)) r ⌝ }
 {
     let block = block_at(v);
-    let status = load_words(s, bytes, from, block + FRAME_STATUS, 1, 15, store);
-    let flags = load_words(s, bytes, status, block, 4, 0xffff_ffff, store);
-    let lines = load_words(s, bytes, flags, block + LINE, 1, 0xffff_0000, store);
-    let priorities = load_words(s, bytes, lines, block + PRIORITIES, 8, 0xf8f8_f8f8, store);
+    let status = load_words(s, bytes, from, block + FRAME_STATUS, 1, STATUSR_BITS, store);
+    let flags = load_words(s, bytes, status, block, 4, FLAG_BITS, store);
+    let lines = load_words(s, bytes, flags, block + LINE, 1, PPI_BITS, store);
+    let priorities = load_words(s, bytes, lines, block + PRIORITIES, 8, PRIORITY_BITS, store);
     load_interface(s, bytes, priorities, block, store)
 }
 
@@ -239,11 +259,18 @@ pub fn load_record(s: &mut [u32], bytes: &[u8], store: bool) -> Refusal
     let count = s[COUNT] as usize;
     let n = s[VCPUS] as usize;
     let header = load_header(s, bytes, n);
-    let control = load_word(s, bytes, header, ENABLES, Kind::Above(0x50, 3), store);
-    let status = load_words(s, bytes, control, STATUS, 1, 15, store);
+    let control = load_word(
+        s,
+        bytes,
+        header,
+        ENABLES,
+        Kind::Above(GICD_CTLR_FIXED, GICD_CTLR_BITS),
+        store,
+    );
+    let status = load_words(s, bytes, control, STATUS, 1, STATUSR_BITS, store);
     let banks = load_banks(s, bytes, status, count, store);
     let spis = spi_count(count);
-    let routes = load_words(s, bytes, banks, ROUTES, spis, 0x00ff_ffff, store);
+    let routes = load_words(s, bytes, banks, ROUTES, spis, ROUTE_BITS, store);
     let blocks = load_vcpus(s, bytes, routes, n, store);
     end_record(bytes, blocks)
 }

@@ -1,8 +1,8 @@
--- `record::save::write_bank` meets its contract.
+-- `record::save::save_bank` meets its contract.
 use Rattle.record.proofs.Filling.{flags-room, low-room, high-room, bank-written}
 use borrow.Author.Needs.{needs}
-use Rattle.record.proofs.save.write_bank.Statement.{statement}
-use Rattle.record.proofs.save.write_bank.Tie as tie
+use Rattle.record.proofs.save.save_bank.Statement.{statement}
+use Rattle.record.proofs.save.save_bank.Tie as tie
 
 returns : tie.Need-returns
 returns c =
@@ -12,10 +12,10 @@ returns c =
     let x = l .before in
     let f = x .before .before .before .before .before in
     let a = f .before .before .before .before in
-    bank-written _ (a .pre .0) _ (a .pre .1) _ _ (a .pre .2) _ _ (f .write-flags .ensures) _ (x .spread .ensures) _ _ (l .write-number .ensures .0) (l .write-number .ensures .1) _ (y .spread2 .ensures) _ _ (h .write-number2 .ensures .0) (h .write-number2 .ensures .1)
+    bank-written _ (a .pre .0) _ (a .pre .1) _ _ (a .pre .2) _ _ (f .save-flags .ensures) _ (x .spread .ensures) _ _ (l .write-number .ensures .0) (l .write-number .ensures .1) _ (y .spread2 .ensures) _ _ (h .write-number2 .ensures .0) (h .write-number2 .ensures .1)
 
-pub write-bank-spec : {M : Type 1} → statement M
-write-bank-spec =
+pub save-bank-spec : {M : Type 1} → statement M
+save-bank-spec =
     tie.close
     (tie.spec (λ c. search needs) (λ c. search needs) (λ c κs. (search needs, search needs, search flags-room)) (λ c. search needs) (λ c. search needs) (λ c. search needs) (λ c κs. search needs)
     (λ c κs. search low-room) (λ c. search needs) (λ c. search needs) (λ c. search needs) (λ c. search needs) (λ c κs. search needs) (λ c κs. search high-room) (λ c. search needs) returns)
