@@ -61,9 +61,12 @@ pub one-stored : (a e : ℕ) (xs last : List ℕ) (j x : ℕ) → e ≤ length x
 unfolding stores further
 one-stored a e xs last j x l m q = rw (q, lent a (e - a) xs ((j, x) ∷ []) (omega arith) (omega arith, tt))
 
--- ---- the blocks and the banks of a state
+-- ---- the parts of a state
 
 module _ (s last : List ℕ) (size : length s ≡ stateLength) (at : ℕ) where
+  pub part-stored : (len j x : ℕ) → at + len ≤ stateLength → j < len → last ≡ set (midOf at (at + len - at) s) j x → putMid at (at + len - at) s last ≡ set s (at + j) x
+  part-stored len j x l m q = one-stored at (at + len) s last j x (omega arith) (omega arith) q
+
   pub block-stored : (v j x : ℕ) → v < mostVcpus → j < 32 → at ≡ block v → last ≡ set (midOf at (at + 32 - at) s) j x → putMid at (at + 32 - at) s last ≡ set s (block v + j) x
   block-stored v j x l m e q = rw (one-stored at (at + 32) s last j x (omega arith) (omega arith) q, e)
 

@@ -22,7 +22,7 @@ use words::with_bit;
 ghost use mathlib.Core.Path.{_≡_};
 ghost use mathlib.Core.Bool.{true};
 ghost use mathlib.Core.List.{[], _∷_};
-ghost use Prim.Native.Nat.{_+_, _-_, _%_, _≤_, _<_};
+ghost use Prim.Native.Nat.{_+_, _*_, _-_, _%_, _≤_, _<_};
 ghost use lib.Dec.{eqb};
 ghost use lib.ListN.{length, set};
 ghost use Rattle.model.specs.Words.{withBit, lowest, allBelow, every};
@@ -177,10 +177,18 @@ pub fn bank_at(v: VcpuIndex, w: usize) -> usize
     if w == 0 {
         return block_at(v);
     }
+    spi_bank_at(w)
+}
+
+// Where the bank of the SPIs 32w to 32w + 31 starts.
+pub fn spi_bank_at(w: usize) -> usize
+    requires { ⌜ w < 32 ⌝ }
+    ensures { λ r. ⌜ (r ≡ 256 + 16 * w) × (r + 16 ≤ 768) ⌝ }
+{
     256 + BANK_LENGTH * w
 }
 
-// Stores one word of a block that is lent.
+// Stores one word of a part that is lent.
 fn store(block: &mut [u32], j: usize, x: u32)
     requires { ⌜ j < length (now block) ⌝ }
     ensures { λ _. ⌜ now (block .exit) ≡ set (now (block .entry)) j x ⌝ }
@@ -195,6 +203,14 @@ pub fn put_in_block(s: &mut [u32], v: VcpuIndex, j: usize, x: u32)
 {
     let at = block_at(v);
     store(&mut s[at..at + BLOCK_LENGTH], j, x);
+}
+
+// Stores word `j` of the part of `len` words that starts at `at`.
+pub fn put_in_part(s: &mut [u32], at: usize, len: usize, j: usize, x: u32)
+    requires { ⌜ (length (now s) ≡ stateLength) × (at + len ≤ stateLength) × (j < len) ⌝ }
+    ensures { λ _. ⌜ now (s .exit) ≡ set (now (s .entry)) (at + j) x ⌝ }
+{
+    store(&mut s[at..at + len], j, x);
 }
 
 // Makes bit `i` of word `k` of a bank that is lent `on`.

@@ -10,15 +10,15 @@ use Rattle.state.proofs.bank_at.Tie as tie
 first : (v w r : ℕ) → w ≡ 0 → r ≡ block v → r + 32 ≤ 272 → (r ≡ bank v w) × (r + 16 ≤ 768)
 first v w r z e l = (e ∙ ap (bank v) (sym z), omega arith)
 
-later : (v w : ℕ) → ¬ (w ≡ 0) → w < 32 → (256 + 16 * w ≡ bank v w) × (256 + 16 * w + 16 ≤ 768)
-later v zero n l = absurd (n refl)
-later v (suc w) n l = (refl, omega arith)
+later : (v w r : ℕ) → ¬ (w ≡ 0) → r ≡ 256 + 16 * w → r + 16 ≤ 768 → (r ≡ bank v w) × (r + 16 ≤ 768)
+later v zero r n e l = absurd (n refl)
+later v (suc w) r n e l = (e, l)
 
 returns : tie.Need-returns
 returns c = first _ _ _ (c .before .if1 .taken) (c .block-at .ensures .0) (c .block-at .ensures .1)
 
 returns-2 : tie.Need-returns-2
-returns-2 c = later _ _ (c .if1 .left) (c .before .pre .1)
+returns-2 c = later _ _ _ (c .before .if1 .left) (c .spi-bank-at .ensures .0) (c .spi-bank-at .ensures .1)
 
 pub bank-at-spec : {M : Type 1} → statement M
-bank-at-spec = tie.close (tie.spec (λ c κs. search needs) returns (λ c. search needs) (λ c. search needs) returns-2)
+bank-at-spec = tie.close (tie.spec (λ c κs. search needs) returns (λ c κs. search needs) returns-2)
