@@ -3,7 +3,6 @@ use crate::number::number_length;
 use crate::slots::header_at;
 use crate::slots::slot_count;
 use crate::slots::spi_count;
-use model::layout::BANK_LENGTH;
 use model::layout::BPR0;
 use model::layout::COUNT;
 use model::layout::CTLR;
@@ -19,6 +18,7 @@ use model::values::GICD_CTLR_FIXED;
 use model::values::ICC_CTLR_FIXED;
 use state::VcpuIndex;
 use state::block_at;
+use state::spi_bank_at;
 use words::spread;
 ghost use mathlib.Core.Path.{_≡_};
 ghost use Prim.Native.Nat.{_+_, _≤_, _<_};
@@ -67,7 +67,7 @@ fn bank_length(s: &[u32], w: usize) -> usize
     requires { ⌜ (length (now s) ≡ stateLength) × (w < 32) ⌝ }
     ensures { λ r. ⌜ Counts (slotBytes (now (s .entry)) (bankSlots w)) r ⌝ }
 {
-    let bank = 256 + BANK_LENGTH * w;
+    let bank = spi_bank_at(w);
     let flags = words_length(&s[bank..bank + EDGES]);
     flags + number_length(spread(s[bank + EDGES])) + number_length(spread(s[bank + (EDGES + 1)]))
 }

@@ -6,7 +6,6 @@ use crate::slots::spi_count;
 use model::Answer;
 use model::Errno;
 use model::layout::ACTIVE;
-use model::layout::BANK_LENGTH;
 use model::layout::BPR0;
 use model::layout::COUNT;
 use model::layout::CTLR;
@@ -25,6 +24,7 @@ use state::VcpuIndex;
 use state::block_at;
 use state::is_sound;
 use state::is_stopped;
+use state::spi_bank_at;
 use words::spread;
 ghost use mathlib.Core.Path.{_≡_};
 ghost use Prim.Native.Nat.{_+_, _≤_, _<_};
@@ -94,7 +94,7 @@ fn save_bank(buf: &mut [u8], at: usize, s: &[u32], w: usize) -> usize
     requires { ⌜ (length (now s) ≡ stateLength) × (w < 32) × (at + length (slotBytes (now s) (bankSlots w)) ≤ length (now buf)) ⌝ }
     ensures { λ r. ⌜ Wrote (now (buf .entry)) at (slotBytes (now (s .entry)) (bankSlots w)) r (now (buf .exit)) ⌝ }
 {
-    let bank = 256 + BANK_LENGTH * w;
+    let bank = spi_bank_at(w);
     let low = save_flags(buf, at, s, bank);
     let high = write_number(buf, low, spread(s[bank + EDGES]));
     write_number(buf, high, spread(s[bank + (EDGES + 1)]))
