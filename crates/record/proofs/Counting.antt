@@ -5,18 +5,19 @@ use mathlib.Core.List.{List, [], _∷_, _++_, append-nil}
 use native.Mathlib.Omega.{arith}
 use lib.ListN.{length, getD, drop, length-append}
 use Rattle.model.specs.Words.{each, spread}
-use Rattle.model.specs.Layout.{stateLength, mostVcpus, word, count, vcpus, block}
+use Rattle.model.specs.Values.{gicdCtlrFixed, iccCtlrFixed}
+use Rattle.model.specs.Layout.{stateLength, mostVcpus, word, count, vcpus, block, enablesAt, distributorStatusAt, edgeField}
 use Rattle.model.specs.Record.{spiWords, spis, encode, recordOf}
 use Rattle.model.specs.Demands.{Stopped}
 use Rattle.model.proofs.Numbers.{encode-short}
 use Rattle.model.proofs.Soundness.{stopped-ready}
 use Rattle.record.specs.Slots.{run, bankSlot, bankSlots, vcpuSlot, vcpuSlots, headerAt, slotRead, slotBytes}
-use Rattle.record.specs.Written.{wordsBytes, Counts}
+use Rattle.record.specs.Written.{wordsBytes, flagsFrom, Counts}
 use Rattle.record.specs.declared.slots.Slot.{Slot}
 use Rattle.record.specs.declared.slots.Slot.the-variants.{Header}
 use Rattle.record.proofs.Lists.{length-each, length-run}
 use Rattle.record.proofs.Saving.{record-is}
-use Rattle.record.proofs.Parts.{bytes-short, flagBytes, privateBytes, pointBytes, routeBytes, bank-bytes, block-bytes, slots-bytes}
+use Rattle.record.proofs.Parts.{bytes-short, privateBytes, pointBytes, routeBytes, bank-bytes, block-bytes, slots-bytes}
 use Rattle.record.proofs.Filling.{words-next, words-end, blocks-next, blocks-end}
 
 -- `sum` is counted of the bytes `all`, and `left` is left
@@ -95,23 +96,23 @@ module _ (s : List ℕ) where
     unfolding slotBytes slotRead
     head-counted w l v q n p = block-counted (λ j. Header j ∷ []) all sum k e w l n (p ∙ rw (q, append-nil (encode (headerAt s k))))
 
--- ---- the parts of a bank, of a block that starts at p, and of the record
+-- ---- the parts of a bank and of a block that start at p, and of the record
 
 module _ (s : List ℕ) (size : length s ≡ stateLength) where
-  pub bank-counts : (w : ℕ) → w < 32 → (a x b y d : ℕ) → a ≡ length (flagBytes s w) → x ≡ spread (word s (256 + 16 * w + 13)) → b ≡ length (encode x)
-      → y ≡ spread (word s (256 + 16 * w + 14)) → d ≡ length (encode y) → Counts (slotBytes s (bankSlots w)) (a + b + d)
-  bank-counts w l a x b y d pa px pb py pd =
-      let z : a + b + d ≡ length (slotBytes s (bankSlots w)) = rw (bank-bytes s size w l, length-append, length-append, length-append, ← px, ← py) (omega arith) in
+  pub bank-counts : (w : ℕ) → w < 32 → (p : ℕ) → p ≡ 256 + 16 * w → (a x b y d : ℕ) → a ≡ length (flagsFrom s p) → x ≡ spread (word s (p + edgeField)) → b ≡ length (encode x)
+      → y ≡ spread (word s (p + (edgeField + 1))) → d ≡ length (encode y) → Counts (slotBytes s (bankSlots w)) (a + b + d)
+  bank-counts w l p e a x b y d pa px pb py pd =
+      let z : a + b + d ≡ length (slotBytes s (bankSlots w)) = rw (bank-bytes s size w p e l, length-append, length-append, length-append, ← px, ← py) (omega arith) in
       record { whole = z; few = omega (arith, few-values s (bankSlots w) 15 (length-run (Header 0) (bankSlot w) 0 15) (omega arith)) }
 
   pub vcpu-counts : (v : ℕ) → v < mostVcpus → (p : ℕ) → p ≡ block v → (a b d e f : ℕ) → a ≡ length (encode (word s (p + 18))) → b ≡ length (privateBytes s p)
-      → d ≡ length (encode (word s (p + 19))) → e ≡ length (encode (0x400 + word s (p + 20))) → f ≡ length (pointBytes s p) → Counts (slotBytes s (vcpuSlots v)) (a + b + (d + e) + f)
+      → d ≡ length (encode (word s (p + 19))) → e ≡ length (encode (iccCtlrFixed + word s (p + 20))) → f ≡ length (pointBytes s p) → Counts (slotBytes s (vcpuSlots v)) (a + b + (d + e) + f)
   vcpu-counts v l p q a b d e f pa pb pd pe pf =
       let z : a + b + (d + e) + f ≡ length (slotBytes s (vcpuSlots v)) =
       rw (block-bytes s size v p q l, length-append, length-append, length-append, length-append, length-append) (omega arith) in
       record { whole = z; few = omega (arith, few-values s (vcpuSlots v) 22 (length-run (Header 0) (vcpuSlot v) 0 22) (omega arith)) }
 
-pub record-counts : (s : List ℕ) → Stopped s → (a b d e m f g : ℕ) → a ≡ length (slotBytes s (run Header 0 (3 + vcpus s))) → b ≡ length (encode (0x50 + word s 3)) → d ≡ length (encode (word s 4))
+pub record-counts : (s : List ℕ) → Stopped s → (a b d e m f g : ℕ) → a ≡ length (slotBytes s (run Header 0 (3 + vcpus s))) → b ≡ length (encode (gicdCtlrFixed + word s enablesAt)) → d ≡ length (encode (word s distributorStatusAt))
     → e ≡ length (slotBytes s (each bankSlots 1 (spiWords (count s)))) → m ≡ spis (count s) → f ≡ length (routeBytes s m) → g ≡ length (slotBytes s (each vcpuSlots 0 (vcpus s)))
     → a + b + d + (e + f) + g ≡ length (recordOf s)
 record-counts s h a b d e m f g pa pb pd pe pm pf pg =

@@ -12,7 +12,8 @@ use lib.Seq.{sets}
 use mir.Syntax.{w32, w64}
 use mir.Val.{Fits}
 use Rattle.model.specs.Words.{each, spread}
-use Rattle.model.specs.Layout.{stateLength, mostVcpus, word, count, vcpus, block, ctlrAt}
+use Rattle.model.specs.Values.{gicdCtlrFixed, gicdCtlrBits, iccCtlrFixed, iccCtlrBits}
+use Rattle.model.specs.Layout.{stateLength, mostVcpus, word, count, vcpus, block, ctlrAt, enablesAt, distributorStatusAt, latchField, activeField, edgeField}
 use Rattle.model.specs.Record.{spiWords, spis, encode, recordOf}
 use Rattle.model.specs.Demands.{Stopped}
 use Rattle.model.proofs.Soundness.{stopped-ready}
@@ -27,7 +28,7 @@ use Rattle.record.proofs.Writing.{Writing, writing-none, writing-end, w
 use Rattle.record.proofs.Order.{length-slots}
 use Rattle.record.proofs.Standing.{sized}
 use Rattle.record.proofs.Saving.{record-is}
-use Rattle.record.proofs.Parts.{bytes-append, bytes-short, flagParts, flag-bytes, flagBytes, privateBytes, pointBytes, routeBytes, bankParts, blockParts, recordParts, bank-bytes, block-bytes, slots-bytes}
+use Rattle.record.proofs.Parts.{bytes-append, bytes-short, flagParts, flag-bytes, privateBytes, pointBytes, routeBytes, bankParts, blockParts, recordParts, bank-bytes, block-bytes, slots-bytes}
 
 -- ---- what is asked of a stopped device
 
@@ -38,8 +39,8 @@ module _ (s : List ℕ) (h : Stopped s) where
   pub stopped-inside : (i : ℕ) → i < stateLength → i < length s
   stopped-inside i l = omega (arith, stopped-ready s h .size)
 
-  pub enables-fit : Fits w32 (0x50 + word s 3)
-  enables-fit = record { fits = omega (arith, fits-le (word s 3) 3 (header-word s (stopped-ready s h) 3 (omega arith))) }
+  pub enables-fit : Fits w32 (gicdCtlrFixed + word s enablesAt)
+  enables-fit = record { fits = omega (arith, fits-le (word s enablesAt) gicdCtlrBits (header-word s (stopped-ready s h) enablesAt (omega arith))) }
 
   pub stopped-length : length s ≡ stateLength
   stopped-length = stopped-ready s h .size
@@ -59,8 +60,8 @@ module _ (s : List ℕ) (h : Stopped s) where
   pub stopped-vcpu : (v n : ℕ) → n ≤ vcpus s → v < n → v < mostVcpus
   stopped-vcpu v n m l = omega (arith, stopped-sized .few)
 
-  pub ctlr-small : (v n : ℕ) → n ≤ vcpus s → v < n → word s (ctlrAt v) ≤ 2
-  ctlr-small v n m l = fits-le (word s (ctlrAt v)) 2 (block-word s (stopped-ready s h) v 20 (omega arith) (omega arith))
+  pub ctlr-small : (v n : ℕ) → n ≤ vcpus s → v < n → word s (ctlrAt v) ≤ iccCtlrBits
+  ctlr-small v n m l = fits-le (word s (ctlrAt v)) iccCtlrBits (block-word s (stopped-ready s h) v 20 (omega arith) (omega arith))
 
   pub count-fits : Fits w64 (count s)
   count-fits = record { fits = omega (arith, stopped-sized .most) }
@@ -169,48 +170,48 @@ module _ (s b : List ℕ) (at : ℕ) (all buf : List ℕ) (next k e : ℕ) (w : 
   head-written next′ buf′ p q =
       block-written s (λ j. Header j ∷ []) b at all buf next k e w l next′ buf′ (rw head-bytes (record { place = p; bytes = q }))
 
--- ---- the bank of an SPI word
+-- ---- the bank of an SPI word, which starts at p
 
 -- the flags of a bank that starts at p
 module _ (s : List ℕ) (size : length s ≡ stateLength) (p : ℕ) (l : p + 16 ≤ stateLength) (b : List ℕ) (at : ℕ) (room : at + length (flagsFrom s p) ≤ length b) where
   flags-none : Writing b at (flagsFrom s p) b at (flagParts s p)
   flags-none = writing-none b at _ (flagParts s p) (flag-bytes s p size l) room
 
-  pub enables-room : at + length (wordsBytes (take (p + 2 - p) (drop p s))) ≤ length b
+  pub enables-room : at + length (wordsBytes (take (p + latchField - p) (drop p s))) ≤ length b
   enables-room = writing-room flags-none
 
-  module _ (at₁ : ℕ) (b₁ : List ℕ) (w₁ : Wrote b at (wordsBytes (take (p + 2 - p) (drop p s))) at₁ b₁) (x : ℕ) (hx : x ≡ word s (p + 2)) where
-    flags-enables : Writing b at (flagsFrom s p) b₁ at₁ (encode x ∷ wordsBytes (take (p + 13 - (p + 3)) (drop (p + 3) s)) ∷ [])
+  module _ (at₁ : ℕ) (b₁ : List ℕ) (w₁ : Wrote b at (wordsBytes (take (p + latchField - p) (drop p s))) at₁ b₁) (x : ℕ) (hx : x ≡ word s (p + latchField)) where
+    flags-enables : Writing b at (flagsFrom s p) b₁ at₁ (encode x ∷ wordsBytes (take (p + edgeField - (p + activeField)) (drop (p + activeField) s)) ∷ [])
     flags-enables = rw hx (writing-next flags-none w₁)
 
     pub latch-room : at₁ + length (encode x) ≤ length b₁
     latch-room = writing-room flags-enables
 
     module _ (at₂ : ℕ) (b₂ : List ℕ) (p₂ : at₂ ≡ at₁ + length (encode x)) (q₂ : b₂ ≡ sets b₁ at₁ (encode x)) where
-      flags-latch : Writing b at (flagsFrom s p) b₂ at₂ (wordsBytes (take (p + 13 - (p + 3)) (drop (p + 3) s)) ∷ [])
+      flags-latch : Writing b at (flagsFrom s p) b₂ at₂ (wordsBytes (take (p + edgeField - (p + activeField)) (drop (p + activeField) s)) ∷ [])
       flags-latch = writing-next flags-enables (record { place = p₂; bytes = q₂ })
 
-      pub active-room : at₂ + length (wordsBytes (take (p + 13 - (p + 3)) (drop (p + 3) s))) ≤ length b₂
+      pub active-room : at₂ + length (wordsBytes (take (p + edgeField - (p + activeField)) (drop (p + activeField) s))) ≤ length b₂
       active-room = writing-room flags-latch
 
-      pub flags-written : (at₃ : ℕ) (b₃ : List ℕ) → Wrote b₂ at₂ (wordsBytes (take (p + 13 - (p + 3)) (drop (p + 3) s))) at₃ b₃ → Wrote b at (flagsFrom s p) at₃ b₃
+      pub flags-written : (at₃ : ℕ) (b₃ : List ℕ) → Wrote b₂ at₂ (wordsBytes (take (p + edgeField - (p + activeField)) (drop (p + activeField) s))) at₃ b₃ → Wrote b at (flagsFrom s p) at₃ b₃
       flags-written at₃ b₃ w = writing-last flags-latch w
 
-module _ (s : List ℕ) (size : length s ≡ stateLength) (w : ℕ) (l : w < 32) (b : List ℕ) (at : ℕ) (room : at + length (slotBytes s (bankSlots w)) ≤ length b) where
-  bank-none : Writing b at (slotBytes s (bankSlots w)) b at (bankParts s w)
-  bank-none = writing-none b at _ (bankParts s w) (bank-bytes s size w l) room
+module _ (s : List ℕ) (size : length s ≡ stateLength) (w : ℕ) (l : w < 32) (p : ℕ) (e : p ≡ 256 + 16 * w) (b : List ℕ) (at : ℕ) (room : at + length (slotBytes s (bankSlots w)) ≤ length b) where
+  bank-none : Writing b at (slotBytes s (bankSlots w)) b at (bankParts s p)
+  bank-none = writing-none b at _ (bankParts s p) (bank-bytes s size w p e l) room
 
-  pub flags-room : at + length (flagBytes s w) ≤ length b
+  pub flags-room : at + length (flagsFrom s p) ≤ length b
   flags-room = writing-room bank-none
 
-  module _ (at₁ : ℕ) (b₁ : List ℕ) (w₁ : Wrote b at (flagBytes s w) at₁ b₁) (x : ℕ) (hx : x ≡ spread (word s (256 + 16 * w + 13))) where
-    bank-flags : Writing b at (slotBytes s (bankSlots w)) b₁ at₁ (encode x ∷ encode (spread (word s (256 + 16 * w + 14))) ∷ [])
+  module _ (at₁ : ℕ) (b₁ : List ℕ) (w₁ : Wrote b at (flagsFrom s p) at₁ b₁) (x : ℕ) (hx : x ≡ spread (word s (p + edgeField))) where
+    bank-flags : Writing b at (slotBytes s (bankSlots w)) b₁ at₁ (encode x ∷ encode (spread (word s (p + (edgeField + 1)))) ∷ [])
     bank-flags = rw hx (writing-next bank-none w₁)
 
     pub low-room : at₁ + length (encode x) ≤ length b₁
     low-room = writing-room bank-flags
 
-    module _ (at₂ : ℕ) (b₂ : List ℕ) (p₂ : at₂ ≡ at₁ + length (encode x)) (q₂ : b₂ ≡ sets b₁ at₁ (encode x)) (y : ℕ) (hy : y ≡ spread (word s (256 + 16 * w + 14))) where
+    module _ (at₂ : ℕ) (b₂ : List ℕ) (p₂ : at₂ ≡ at₁ + length (encode x)) (q₂ : b₂ ≡ sets b₁ at₁ (encode x)) (y : ℕ) (hy : y ≡ spread (word s (p + (edgeField + 1)))) where
       bank-low : Writing b at (slotBytes s (bankSlots w)) b₂ at₂ (encode y ∷ [])
       bank-low = rw hy (writing-next bank-flags (record { place = p₂; bytes = q₂ }))
 
@@ -223,7 +224,7 @@ module _ (s : List ℕ) (size : length s ≡ stateLength) (w : ℕ) (l : w < 32)
 -- ---- the block of a vCPU, which starts at p
 
 -- CTLR as it is read is a number of 32 bits
-pub ctlr-fits : (s : List ℕ) (v p : ℕ) → p ≡ block v → word s (ctlrAt v) ≤ 2 → Fits w32 (0x400 + word s (p + 20))
+pub ctlr-fits : (s : List ℕ) (v p : ℕ) → p ≡ block v → word s (ctlrAt v) ≤ iccCtlrBits → Fits w32 (iccCtlrFixed + word s (p + 20))
 ctlr-fits s v p e l = record { fits = rw e (omega arith) }
 
 module _ (s : List ℕ) (size : length s ≡ stateLength) (v : ℕ) (l : v < mostVcpus) (p : ℕ) (e : p ≡ block v) (b : List ℕ) (at : ℕ) (room : at + length (slotBytes s (vcpuSlots v)) ≤ length b) where
@@ -238,17 +239,17 @@ module _ (s : List ℕ) (size : length s ≡ stateLength) (v : ℕ) (l : v < mos
     private-room = writing-room (writing-next vcpu-none (record { place = p₁; bytes = q₁ }))
 
     module _ (at₂ : ℕ) (b₂ : List ℕ) (w₂ : Wrote b₁ at₁ (privateBytes s p) at₂ b₂) where
-      vcpu-private : Writing b at (slotBytes s (vcpuSlots v)) b₂ at₂ (encode (word s (p + 19)) ∷ encode (0x400 + word s (p + 20)) ∷ pointBytes s p ∷ [])
+      vcpu-private : Writing b at (slotBytes s (vcpuSlots v)) b₂ at₂ (encode (word s (p + 19)) ∷ encode (iccCtlrFixed + word s (p + 20)) ∷ pointBytes s p ∷ [])
       vcpu-private = writing-next (writing-next vcpu-none (record { place = p₁; bytes = q₁ })) w₂
 
       pub pmr-room : at₂ + length (encode (word s (p + 19))) ≤ length b₂
       pmr-room = writing-room vcpu-private
 
       module _ (at₃ : ℕ) (b₃ : List ℕ) (p₃ : at₃ ≡ at₂ + length (encode (word s (p + 19)))) (q₃ : b₃ ≡ sets b₂ at₂ (encode (word s (p + 19)))) where
-        pub ctlr-room : at₃ + length (encode (0x400 + word s (p + 20))) ≤ length b₃
+        pub ctlr-room : at₃ + length (encode (iccCtlrFixed + word s (p + 20))) ≤ length b₃
         ctlr-room = writing-room (writing-next vcpu-private (record { place = p₃; bytes = q₃ }))
 
-        module _ (at₄ : ℕ) (b₄ : List ℕ) (p₄ : at₄ ≡ at₃ + length (encode (0x400 + word s (p + 20)))) (q₄ : b₄ ≡ sets b₃ at₃ (encode (0x400 + word s (p + 20)))) where
+        module _ (at₄ : ℕ) (b₄ : List ℕ) (p₄ : at₄ ≡ at₃ + length (encode (iccCtlrFixed + word s (p + 20)))) (q₄ : b₄ ≡ sets b₃ at₃ (encode (iccCtlrFixed + word s (p + 20)))) where
           vcpu-ctlr : Writing b at (slotBytes s (vcpuSlots v)) b₄ at₄ (pointBytes s p ∷ [])
           vcpu-ctlr = writing-next (writing-next vcpu-private (record { place = p₃; bytes = q₃ })) (record { place = p₄; bytes = q₄ })
 
@@ -270,18 +271,18 @@ module _ (s : List ℕ) (h : Stopped s) (b : List ℕ) (room : length (recordOf 
   header-room = writing-room (record-none (spis (count s)) refl)
 
   module _ (at₁ : ℕ) (b₁ : List ℕ) (w₁ : Wrote b 0 (slotBytes s (run Header 0 (3 + vcpus s))) at₁ b₁) where
-    pub control-room : at₁ + length (encode (0x50 + word s 3)) ≤ length b₁
+    pub control-room : at₁ + length (encode (gicdCtlrFixed + word s enablesAt)) ≤ length b₁
     control-room = writing-room (writing-next (record-none (spis (count s)) refl) w₁)
 
-    module _ (at₂ : ℕ) (b₂ : List ℕ) (p₂ : at₂ ≡ at₁ + length (encode (0x50 + word s 3))) (q₂ : b₂ ≡ sets b₁ at₁ (encode (0x50 + word s 3))) where
+    module _ (at₂ : ℕ) (b₂ : List ℕ) (p₂ : at₂ ≡ at₁ + length (encode (gicdCtlrFixed + word s enablesAt))) (q₂ : b₂ ≡ sets b₁ at₁ (encode (gicdCtlrFixed + word s enablesAt))) where
       record-control : (m : ℕ) → m ≡ spis (count s)
-          → Writing b 0 (recordOf s) b₂ at₂ (encode (word s 4) ∷ slotBytes s (each bankSlots 1 (spiWords (count s))) ∷ routeBytes s m ∷ slotBytes s (each vcpuSlots 0 (vcpus s)) ∷ [])
+          → Writing b 0 (recordOf s) b₂ at₂ (encode (word s distributorStatusAt) ∷ slotBytes s (each bankSlots 1 (spiWords (count s))) ∷ routeBytes s m ∷ slotBytes s (each vcpuSlots 0 (vcpus s)) ∷ [])
       record-control m e = writing-next (writing-next (record-none m e) w₁) (record { place = p₂; bytes = q₂ })
 
-      pub status-room : at₂ + length (encode (word s 4)) ≤ length b₂
+      pub status-room : at₂ + length (encode (word s distributorStatusAt)) ≤ length b₂
       status-room = writing-room (record-control (spis (count s)) refl)
 
-      module _ (at₃ : ℕ) (b₃ : List ℕ) (p₃ : at₃ ≡ at₂ + length (encode (word s 4))) (q₃ : b₃ ≡ sets b₂ at₂ (encode (word s 4))) where
+      module _ (at₃ : ℕ) (b₃ : List ℕ) (p₃ : at₃ ≡ at₂ + length (encode (word s distributorStatusAt))) (q₃ : b₃ ≡ sets b₂ at₂ (encode (word s distributorStatusAt))) where
         record-status : (m : ℕ) → m ≡ spis (count s)
             → Writing b 0 (recordOf s) b₃ at₃ (slotBytes s (each bankSlots 1 (spiWords (count s))) ∷ routeBytes s m ∷ slotBytes s (each vcpuSlots 0 (vcpus s)) ∷ [])
         record-status m e = writing-next (record-control m e) (record { place = p₃; bytes = q₃ })

@@ -10,7 +10,8 @@ use borrow.Author.Tests.{lt-ltb, le-ltb, ne-eqb}
 use lib.Dec.{eqb, ltb}
 use lib.ListN.{length, getD, length-append}
 use Rattle.model.specs.Words.{each}
-use Rattle.model.specs.Layout.{routeAt}
+use Rattle.model.specs.Values.{gicdCtlrFixed, gicdCtlrBits, statusrBits}
+use Rattle.model.specs.Layout.{routeAt, enablesAt, distributorStatusAt}
 use Rattle.model.specs.Record.{spiWords, spis}
 use Rattle.record.specs.Slots.{bankSlot, bankSlots, routeSlot, vcpuSlot, vcpuSlots, run, slots, Sized}
 use Rattle.record.specs.declared.slots.Slot.{Slot}
@@ -63,14 +64,14 @@ module _ (c n : ℕ) where
   unfolding slots
   slot-header k l = before blank (run Header 0 (3 + n)) _ (3 + n) k (length-run blank Header 0 (3 + n)) l ∙ run-at blank Header 0 (3 + n) k l ∙ ap Header (zero-add k)
 
-  after-header : (k : ℕ) → 3 + n ≤ k → getD (slots c n) k blank ≡ getD (Word 3 (Above 0x50 3) ∷ Word 4 (Within 15) ∷ from-banks) (k - (3 + n)) blank
+  after-header : (k : ℕ) → 3 + n ≤ k → getD (slots c n) k blank ≡ getD (Word enablesAt (Above gicdCtlrFixed gicdCtlrBits) ∷ Word distributorStatusAt (Within statusrBits) ∷ from-banks) (k - (3 + n)) blank
   unfolding slots
   after-header k l = past blank (run Header 0 (3 + n)) _ (3 + n) k (length-run blank Header 0 (3 + n)) l
 
-  slot-control : (k : ℕ) → k ≡ 3 + n → getD (slots c n) k blank ≡ Word 3 (Above 0x50 3)
+  slot-control : (k : ℕ) → k ≡ 3 + n → getD (slots c n) k blank ≡ Word enablesAt (Above gicdCtlrFixed gicdCtlrBits)
   slot-control k e = let z : k - (3 + n) ≡ 0 = omega arith in after-header k (omega arith) ∙ rw z
 
-  slot-status : (k : ℕ) → k ≡ 4 + n → getD (slots c n) k blank ≡ Word 4 (Within 15)
+  slot-status : (k : ℕ) → k ≡ 4 + n → getD (slots c n) k blank ≡ Word distributorStatusAt (Within statusrBits)
   slot-status k e = let z : k - (3 + n) ≡ 1 = omega arith in after-header k (omega arith) ∙ rw z
 
   after-control : (k i : ℕ) → 5 + n ≤ k → i ≡ k - (5 + n) → getD (slots c n) k blank ≡ getD from-banks i blank

@@ -10,10 +10,11 @@ use lib.Dec.{eqb, ltb}
 use lib.ListN.{length, getD, take, drop, length-append}
 use lib.Seq.{drop-cons}
 use Rattle.model.specs.Words.{each, spread}
-use Rattle.model.specs.Layout.{stateLength, mostVcpus, word, block}
+use Rattle.model.specs.Values.{gicdCtlrFixed, gicdCtlrBits, iccCtlrFixed, flagBits, ppiBits, priorityBits, statusrBits, aprBits, oneBit}
+use Rattle.model.specs.Layout.{stateLength, mostVcpus, word, block, enablesAt, distributorStatusAt, frameStatusAt, leastBpr, latchField, activeField, lineField, edgeField}
 use Rattle.model.specs.Record.{spiWords, spis, encode}
 use Rattle.model.proofs.Numbers.{encode-short}
-use Rattle.record.specs.Slots.{shown, flagBits, priorityBits, bankKind, bankSlot, bankSlots, privateKind, interfaceKind, vcpuSlot, vcpuSlots, routeSlot, run, slots, slotRead, slotBytes}
+use Rattle.record.specs.Slots.{shown, bankFlagBits, bankPriorityBits, bankKind, bankSlot, bankSlots, privateKind, interfaceKind, vcpuSlot, vcpuSlots, routeSlot, run, slots, slotRead, slotBytes}
 use Rattle.record.specs.Written.{wordsBytes, flagsFrom}
 use Rattle.record.specs.declared.slots.Kind.{Kind}
 use Rattle.record.specs.declared.slots.Kind.the-variants.{Within, Above, Point}
@@ -61,7 +62,7 @@ words-split s p (suc a) b h =
 
 -- the flags of a bank that starts at p: groups and enables, the latch, and those after it
 abbrev pub flagParts : List ℕ → ℕ → List (List ℕ)
-flagParts s p = wordsBytes (take (p + 2 - p) (drop p s)) ∷ encode (word s (p + 2)) ∷ wordsBytes (take (p + 13 - (p + 3)) (drop (p + 3) s)) ∷ []
+flagParts s p = wordsBytes (take (p + latchField - p) (drop p s)) ∷ encode (word s (p + latchField)) ∷ wordsBytes (take (p + edgeField - (p + activeField)) (drop (p + activeField) s)) ∷ []
 
 latch-first : (s : List ℕ) (q : ℕ) → q < length s → wordsBytes (take 11 (drop q s)) ≡ encode (word s q) ++ (wordsBytes (take 10 (drop (suc q) s)) ++ [])
 unfolding wordsBytes
@@ -71,9 +72,9 @@ pub flag-bytes : (s : List ℕ) (p : ℕ) → length s ≡ stateLength → p + 1
 flag-bytes s p size h =
     let all : p + 13 - p ≡ 2 + 11 = omega arith in
     let two : p + 2 - p ≡ 2 = omega arith in
-    let ten : p + 13 - (p + 3) ≡ 10 = omega arith in
-    let next : p + 3 ≡ suc (p + 2) = omega arith in
-    rw (all, two, ten, next) (words-split s p 2 11 (omega arith) ∙ ap (λ (l : List ℕ). wordsBytes (take 2 (drop p s)) ++ l) (latch-first s (p + 2) (omega arith)))
+    let ten : p + 13 - (p + activeField) ≡ 10 = omega arith in
+    let next : p + 3 ≡ suc (p + latchField) = omega arith in
+    rw (all, two, ten, next) (words-split s p 2 11 (omega arith) ∙ ap (λ (l : List ℕ). wordsBytes (take 2 (drop p s)) ++ l) (latch-first s (p + latchField) (omega arith)))
 
 -- ---- words that are shown as themselves
 
@@ -91,19 +92,19 @@ private-plain : (j x : ℕ) → shown (privateKind j) x ≡ x
 unfolding privateKind
 private-plain j x = go (ltb j 4)
   where
-    go : (t : Bool) → shown (cond t (Within 0xffffffff) (cond (eqb j 4) (Within 0xffff0000) (Within 0xf8f8f8f8))) x ≡ x
-    go true = within-or true 0xffffffff 0 x
-    go false = within-or (eqb j 4) 0xffff0000 0xf8f8f8f8 x
+    go : (t : Bool) → shown (cond t (Within flagBits) (cond (eqb j lineField) (Within ppiBits) (Within priorityBits))) x ≡ x
+    go true = within-or true flagBits 0 x
+    go false = within-or (eqb j lineField) ppiBits priorityBits x
 
 interface-plain : (j x : ℕ) → 2 ≤ j → shown (interfaceKind j) x ≡ x
 unfolding interfaceKind
 interface-plain j x l =
     rw (ne-eqb j 0 (λ e. omega arith), ne-eqb j 1 (λ e. omega arith))
-    (point-or (eqb j 2) 2 _ x (point-or (eqb j 3) 3 _ x (within-or (ltb j 6) 0xffffffff 1 x)))
+    (point-or (eqb j 2) (leastBpr 0) _ x (point-or (eqb j 3) (leastBpr 1) _ x (within-or (ltb j 6) aprBits oneBit x)))
 
 bank-plain : (t : Bool) (j x : ℕ) → j < 13 → shown (bankKind t j) x ≡ x
 unfolding bankKind
-bank-plain t j x l = rw (lt-ltb j 13 l) (within-or (ltb j 5) (flagBits t) (priorityBits t j) x)
+bank-plain t j x l = rw (lt-ltb j 13 l) (within-or (ltb j 5) (bankFlagBits t) (bankPriorityBits t j) x)
 
 module _ (s : List ℕ) where
   bank-reads : (w j : ℕ) → j < 13 → slotRead s (bankSlot w j) ≡ word s (256 + 16 * w + j)
@@ -125,13 +126,10 @@ module _ (s : List ℕ) where
         let y : vcpuSlot v j ≡ Word (block v + (j + 5)) (interfaceKind (j - 14)) = rw (ne-eqb j 0 (λ e. omega arith), le-ltb j 14 (omega arith)) in
         ap (slotRead s) y ∙ interface-plain (j - 14) _ (omega arith) ∙ ap (word s) z
 
--- ---- the parts of a bank, of a block that starts at p, and of the record with m SPIs
-
-abbrev pub flagBytes : List ℕ → ℕ → List ℕ
-flagBytes s w = flagsFrom s (256 + 16 * w)
+-- ---- the parts of a bank and of a block that start at p, and of the record with m SPIs
 
 abbrev pub privateBytes : List ℕ → ℕ → List ℕ
-privateBytes s p = wordsBytes (take (p + 13 - p) (drop p s))
+privateBytes s p = wordsBytes (take (p + edgeField - p) (drop p s))
 
 abbrev pub pointBytes : List ℕ → ℕ → List ℕ
 pointBytes s p = wordsBytes (take (p + 27 - (p + 21)) (drop (p + 21) s))
@@ -140,31 +138,31 @@ abbrev pub routeBytes : List ℕ → ℕ → List ℕ
 routeBytes s m = wordsBytes (take (768 + m - 768) (drop 768 s))
 
 abbrev pub bankParts : List ℕ → ℕ → List (List ℕ)
-bankParts s w = flagBytes s w ∷ encode (spread (word s (256 + 16 * w + 13))) ∷ encode (spread (word s (256 + 16 * w + 14))) ∷ []
+bankParts s p = flagsFrom s p ∷ encode (spread (word s (p + edgeField))) ∷ encode (spread (word s (p + (edgeField + 1)))) ∷ []
 
 abbrev pub blockParts : List ℕ → ℕ → List (List ℕ)
-blockParts s p = encode (word s (p + 18)) ∷ privateBytes s p ∷ encode (word s (p + 19)) ∷ encode (0x400 + word s (p + 20)) ∷ pointBytes s p ∷ []
+blockParts s p = encode (word s (p + 18)) ∷ privateBytes s p ∷ encode (word s (p + 19)) ∷ encode (iccCtlrFixed + word s (p + 20)) ∷ pointBytes s p ∷ []
 
 abbrev pub recordParts : List ℕ → ℕ → ℕ → ℕ → List (List ℕ)
 recordParts s c n m =
-    slotBytes s (run Header 0 (3 + n)) ∷ encode (0x50 + word s 3) ∷ encode (word s 4) ∷ slotBytes s (each bankSlots 1 (spiWords c)) ∷ routeBytes s m
+    slotBytes s (run Header 0 (3 + n)) ∷ encode (gicdCtlrFixed + word s enablesAt) ∷ encode (word s distributorStatusAt) ∷ slotBytes s (each bankSlots 1 (spiWords c)) ∷ routeBytes s m
     ∷ slotBytes s (each vcpuSlots 0 n) ∷ []
 
 module _ (s : List ℕ) (size : length s ≡ stateLength) where
-  module _ (w : ℕ) (l : w < 32) where
+  module _ (w p : ℕ) (e : p ≡ 256 + 16 * w) (l : w < 32) where
     bank-lists : bankSlots w ≡ run (bankSlot w) 0 13 ++ (bankSlot w 13 ∷ bankSlot w 14 ∷ [])
     unfolding each
     bank-lists = refl
 
-    edge-bytes : slotBytes s (bankSlot w 13 ∷ bankSlot w 14 ∷ []) ≡ joined (encode (spread (word s (256 + 16 * w + 13))) ∷ encode (spread (word s (256 + 16 * w + 14))) ∷ [])
+    edge-bytes : slotBytes s (bankSlot w 13 ∷ bankSlot w 14 ∷ []) ≡ joined (encode (spread (word s (p + edgeField))) ∷ encode (spread (word s (p + (edgeField + 1)))) ∷ [])
     unfolding slotBytes slotRead bankSlot bankKind shown
-    edge-bytes = refl
+    edge-bytes = rw e
 
-    pub bank-bytes : slotBytes s (bankSlots w) ≡ joined (bankParts s w)
+    pub bank-bytes : slotBytes s (bankSlots w) ≡ joined (bankParts s p)
     bank-bytes =
         ap (slotBytes s) bank-lists ∙ bytes-append s (run (bankSlot w) 0 13) (bankSlot w 13 ∷ bankSlot w 14 ∷ [])
         ∙ ap₂ (λ (x y : List ℕ). x ++ y)
-        (part-run s (bankSlot w) (256 + 16 * w) 0 13 (256 + 16 * w) (256 + 16 * w + 13) (omega arith) refl (omega arith) (λ j a m. bank-reads s w j (omega arith)))
+        (part-run s (bankSlot w) (256 + 16 * w) 0 13 p (p + edgeField) (omega arith) refl (omega arith) (λ j a m. bank-reads s w j (omega arith)))
         edge-bytes
 
   module _ (v p : ℕ) (e : p ≡ block v) (l : v < mostVcpus) where
@@ -173,15 +171,15 @@ module _ (s : List ℕ) (size : length s ≡ stateLength) where
     block-lists = refl
 
     named-bytes : (xs ys : List Slot) → slotBytes s (vcpuSlot v 0 ∷ (xs ++ (vcpuSlot v 14 ∷ vcpuSlot v 15 ∷ ys)))
-        ≡ encode (word s (p + 18)) ++ (slotBytes s xs ++ (encode (word s (p + 19)) ++ (encode (0x400 + word s (p + 20)) ++ slotBytes s ys)))
+        ≡ encode (word s (p + 18)) ++ (slotBytes s xs ++ (encode (word s (p + 19)) ++ (encode (iccCtlrFixed + word s (p + 20)) ++ slotBytes s ys)))
     unfolding slotBytes slotRead vcpuSlot interfaceKind shown
-    named-bytes xs ys = rw e (ap (λ (y : List ℕ). encode (word s (block v + 18)) ++ y) (bytes-append s xs (vcpuSlot v 14 ∷ vcpuSlot v 15 ∷ ys)))
+    named-bytes xs ys = rw e (ap (λ (y : List ℕ). encode (word s (frameStatusAt v)) ++ y) (bytes-append s xs (vcpuSlot v 14 ∷ vcpuSlot v 15 ∷ ys)))
 
     pub block-bytes : slotBytes s (vcpuSlots v) ≡ joined (blockParts s p)
     block-bytes =
         ap (slotBytes s) block-lists ∙ named-bytes (run (vcpuSlot v) 1 13) (run (vcpuSlot v) 16 6)
-        ∙ ap₂ (λ (x y : List ℕ). encode (word s (p + 18)) ++ (x ++ (encode (word s (p + 19)) ++ (encode (0x400 + word s (p + 20)) ++ y))))
-        (part-run s (vcpuSlot v) (15 + 32 * v) 1 13 p (p + 13) (omega arith) refl (omega arith) (λ j a m. private-reads s v j a (omega arith)))
+        ∙ ap₂ (λ (x y : List ℕ). encode (word s (p + 18)) ++ (x ++ (encode (word s (p + 19)) ++ (encode (iccCtlrFixed + word s (p + 20)) ++ y))))
+        (part-run s (vcpuSlot v) (15 + 32 * v) 1 13 p (p + edgeField) (omega arith) refl (omega arith) (λ j a m. private-reads s v j a (omega arith)))
         (part-run s (vcpuSlot v) (21 + 32 * v) 16 6 (p + 21) (p + 27) (omega arith) (omega arith) (omega arith) (λ j a m. interface-reads s v j a) ∙ sym (append-nil (pointBytes s p)))
 
   module _ (c n m : ℕ) (e : m ≡ spis c) where
@@ -203,5 +201,5 @@ module _ (s : List ℕ) (size : length s ≡ stateLength) where
     pub slots-bytes : slotBytes s (slots c n) ≡ joined (recordParts s c n m)
     unfolding slots slotBytes slotRead shown
     slots-bytes =
-        bytes-append s (run Header 0 (3 + n)) (Word 3 (Above 0x50 3) ∷ Word 4 (Within 15) ∷ (each bankSlots 1 (spiWords c) ++ from-routes))
-        ∙ ap (λ (y : List ℕ). slotBytes s (run Header 0 (3 + n)) ++ (encode (0x50 + word s 3) ++ (encode (word s 4) ++ y))) tail-bytes
+        bytes-append s (run Header 0 (3 + n)) (Word enablesAt (Above gicdCtlrFixed gicdCtlrBits) ∷ Word distributorStatusAt (Within statusrBits) ∷ (each bankSlots 1 (spiWords c) ++ from-routes))
+        ∙ ap (λ (y : List ℕ). slotBytes s (run Header 0 (3 + n)) ++ (encode (gicdCtlrFixed + word s enablesAt) ++ (encode (word s distributorStatusAt) ++ y))) tail-bytes

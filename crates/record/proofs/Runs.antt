@@ -8,7 +8,8 @@ use borrow.Author.Tests.{not-true, not-false, ne-eqb, lt-ltb, le-ltb}
 use lib.Dec.{eqb}
 use lib.ListN.{length, set, drop, length-set}
 use Rattle.model.specs.Words.{each}
-use Rattle.model.specs.Layout.{stateLength, count, vcpus, block}
+use Rattle.model.specs.Values.{gicdCtlrFixed, gicdCtlrBits, iccCtlrFixed, iccCtlrBits, flagBits, lastFlagBits, ppiBits, priorityBits, routeBits, statusrBits, pmrBits, aprBits, oneBit}
+use Rattle.model.specs.Layout.{stateLength, count, vcpus, block, enablesAt, distributorStatusAt, leastBpr, lineField, priorityField, edgeField, groupField}
 use Rattle.model.specs.Sound.{fits}
 use Rattle.model.specs.Record.{spiWords, spis, restored, decodeNumber}
 use Rattle.model.specs.Demands.{Fresh}
@@ -17,7 +18,7 @@ use Rattle.model.specs.declared.Errno.the-variants.{Einval, Ebadmsg}
 use Rattle.model.specs.declared.Refusal.{Refusal}
 use Rattle.model.specs.declared.Refusal.the-variants.{None, Refuse}
 use Rattle.record.specs.Numbers.{Answers}
-use Rattle.record.specs.Slots.{hidden, shows, flagBits, priorityBits, edgeBits, bankKind, bankSlot, bankSlots, privateKind, interfaceKind, vcpuSlot, vcpuSlots, routeSlot, run, slots, headerAt, takes, slotPut, faultOf, Where, Passes}
+use Rattle.record.specs.Slots.{hidden, shows, bankFlagBits, bankPriorityBits, bankEdgeBits, bankKind, bankSlot, bankSlots, privateKind, interfaceKind, vcpuSlot, vcpuSlots, routeSlot, run, slots, headerAt, takes, slotPut, faultOf, Where, Passes}
 use Rattle.record.specs.Loaded.{wordSlots, interfaceSlots, Carries, Loads, Heads, endOf}
 use Rattle.record.specs.declared.load.Step.{Step}
 use Rattle.record.specs.declared.load.Step.the-variants.{At, Fault}
@@ -32,8 +33,8 @@ use Rattle.record.proofs.Turns.{Leads, leads-all, leads-next, leads-end
 
 -- ---- storing a word
 
-pub put-word : (s : List ℕ) (at x : ℕ) (b : Bool) → b ≡ true → set s at x ≡ cond b (set s at x) s
-put-word s at x b l = rw l
+pub put-word : (s : List ℕ) (at x : ℕ) (b : Bool) → b ≡ true → (u : List ℕ) → u ≡ set s at x → u ≡ cond b (set s at x) s
+put-word s at x b l u e = rw l e
 
 put-length : (s : List ℕ) (at x : ℕ) (b : Bool) → length (cond b (set s at x) s) ≡ length s
 put-length s at x true = length-set s at x
@@ -67,40 +68,42 @@ loads-then a b = record { same = b .same ∙ a .same; carries = λ t. carries-th
 
 -- ---- words that are shown as themselves
 
-module _ (p m k : ℕ) (bytes : List ℕ) (store : Bool) (c₀ : Cursor) (s₀ : List ℕ) where
-  pub run-first : Loading (wordSlots p m (Within k)) bytes store (At c₀) s₀ (wordSlots (p + 0) (m - 0) (Within k)) (At c₀) s₀
+module _ (a j m k : ℕ) (bytes : List ℕ) (store : Bool) (c₀ : Cursor) (s₀ : List ℕ) where
+  pub run-first : Loading (wordSlots (a + j) m (Within k)) bytes store (At c₀) s₀ (wordSlots (a + j + 0) (m - 0) (Within k)) (At c₀) s₀
   run-first =
-      let y : p + 0 ≡ p = omega arith in
+      let y : a + j + 0 ≡ a + j = omega arith in
       let z : m - 0 ≡ m = omega arith in
       loading-all _ _ bytes store (At c₀) s₀ (rw (y, z))
 
-  module _ (i : ℕ) (c : Cursor) (s : List ℕ) (l : Loading (wordSlots p m (Within k)) bytes store (At c₀) s₀ (wordSlots (p + i) (m - i) (Within k)) (At c) s) where
-    module _ (h : i < m) (r : Number) (a : Answers bytes (c .at) (decodeNumber (drop (c .at) bytes)) r) where
-      next : {s′ : List ℕ} {q : Step} → Loads (Word (p + i) (Within k) ∷ []) bytes store (At c) s s′ q
-          → Loading (wordSlots p m (Within k)) bytes store (At c₀) s₀ (wordSlots (p + (i + 1)) (m - (i + 1)) (Within k)) q s′
+  module _ (i : ℕ) (c : Cursor) (s : List ℕ) (l : Loading (wordSlots (a + j) m (Within k)) bytes store (At c₀) s₀ (wordSlots (a + j + i) (m - i) (Within k)) (At c) s) where
+    module _ (h : i < m) (r : Number) (n : Answers bytes (c .at) (decodeNumber (drop (c .at) bytes)) r) where
+      next : {s′ : List ℕ} {q : Step} → Loads (Word (a + j + i) (Within k) ∷ []) bytes store (At c) s s′ q
+          → Loading (wordSlots (a + j) m (Within k)) bytes store (At c₀) s₀ (wordSlots (a + j + (i + 1)) (m - (i + 1)) (Within k)) q s′
       next =
-          loading-next l (Word (p + i) (Within k) ∷ []) (wordSlots (p + (i + 1)) (m - (i + 1)) (Within k))
-          (each-split (λ j. Word j (Within k) ∷ []) (p + i) (p + (i + 1)) m i (omega arith) h)
+          loading-next l (Word (a + j + i) (Within k) ∷ []) (wordSlots (a + j + (i + 1)) (m - (i + 1)) (Within k))
+          (each-split (λ j. Word j (Within k) ∷ []) (a + j + i) (a + j + (i + 1)) m i (omega arith) h)
 
-      pub run-broken : r ≡ Broken → (from : Step) → from ≡ At c₀ → Loads (wordSlots p m (Within k)) bytes store from s₀ s (Fault Ebadmsg)
-      run-broken e from f = rw f (loading-fault (next (record { same = refl; carries = λ t. one-broken t (Word (p + i) (Within k)) bytes store c s r a e })) Ebadmsg refl)
+      pub run-broken : r ≡ Broken → (from : Step) → from ≡ At c₀ → Loads (wordSlots (a + j) m (Within k)) bytes store from s₀ s (Fault Ebadmsg)
+      run-broken e from f = rw f (loading-fault (next (record { same = refl; carries = λ t. one-broken t (Word (a + j + i) (Within k)) bytes store c s r n e })) Ebadmsg refl)
 
       module _ (v : ℕ) (d : Cursor) (e : r ≡ Value v d) (b : Bool) (hb : b ≡ fits v k) where
-        pub run-unread : not b ≡ true → (from : Step) → from ≡ At c₀ → Loads (wordSlots p m (Within k)) bytes store from s₀ s (Fault Einval)
+        pub run-unread : not b ≡ true → (from : Step) → from ≡ At c₀ → Loads (wordSlots (a + j) m (Within k)) bytes store from s₀ s (Fault Einval)
         unfolding takes shows
         run-unread g from f =
-            rw f (loading-fault (next (record { same = refl; carries = λ t. one-unread t (Word (p + i) (Within k)) bytes store c s r a v d e (sym hb ∙ not-true b g) })) Einval refl)
+            rw f (loading-fault (next (record { same = refl; carries = λ t. one-unread t (Word (a + j + i) (Within k)) bytes store c s r n v d e (sym hb ∙ not-true b g) })) Einval refl)
 
-        pub run-next : not b ≡ false → (u : List ℕ) → u ≡ cond store (set s (p + i) v) s
-            → Loading (wordSlots p m (Within k)) bytes store (At c₀) s₀ (wordSlots (p + (i + 1)) (m - (i + 1)) (Within k)) (At d) u
+        pub run-next : not b ≡ false → (u : List ℕ) → u ≡ cond store (set s (a + (j + i)) v) s
+            → Loading (wordSlots (a + j) m (Within k)) bytes store (At c₀) s₀ (wordSlots (a + j + (i + 1)) (m - (i + 1)) (Within k)) (At d) u
         unfolding takes shows slotPut hidden
-        run-next g u q = next (record {
-          same = ap length q ∙ put-length s (p + i) v store;
-          carries = λ t. one-taken t (Word (p + i) (Within k)) bytes store c s r a v d e (sym hb ∙ not-false b g) u q;
-        })
+        run-next g u q =
+            let z : a + (j + i) ≡ a + j + i = omega arith in
+            next (record {
+              same = ap length q ∙ put-length s (a + (j + i)) v store;
+              carries = λ t. one-taken t (Word (a + j + i) (Within k)) bytes store c s r n v d e (sym hb ∙ not-false b g) u (rw z at q);
+            })
 
-    pub run-end : m ≤ i → (from : Step) → from ≡ At c₀ → Loads (wordSlots p m (Within k)) bytes store from s₀ s (At c)
-    run-end h from f = rw f (loading-end l (each-over (λ j. Word j (Within k) ∷ []) (p + i) m i h))
+    pub run-end : m ≤ i → (from : Step) → from ≡ At c₀ → Loads (wordSlots (a + j) m (Within k)) bytes store from s₀ s (At c)
+    run-end h from f = rw f (loading-end l (each-over (λ j. Word j (Within k) ∷ []) (a + j + i) m i h))
 
     -- the words stand in the state
     pub run-size : length s₀ ≡ stateLength → length s ≡ stateLength
@@ -189,75 +192,77 @@ unfolding each
 words-from q b zero p k e = refl
 words-from q b (suc m) p k e = rw (words-from q (suc b) m (suc p) k (omega arith), e)
 
-bank-words : (w : ℕ) → ¬ (w ≡ 31)
+bank-words : (w p : ℕ) → ¬ (w ≡ 31) → p ≡ 256 + 16 * w
     → bankSlots w
-    ≡ run (λ j. Word (256 + 16 * w + j) (Within 0xffffffff)) 0 5
-    ++ (run (λ j. Word (256 + 16 * w + j) (Within 0xf8f8f8f8)) 5 8 ++ (wordSlots (256 + 16 * w + 13) 1 (Edges 0xaaaaaaaa) ++ wordSlots (256 + 16 * w + 14) 1 (Edges 0xaaaaaaaa)))
-unfolding each bankSlot bankKind flagBits priorityBits edgeBits
-bank-words w n = rw (ne-eqb w 31 n)
+    ≡ run (λ j. Word (p + j) (Within flagBits)) groupField 5
+    ++ (run (λ j. Word (p + j) (Within priorityBits)) priorityField 8 ++ (wordSlots (p + edgeField) 1 (Edges 0xaaaaaaaa) ++ wordSlots (p + (edgeField + 1)) 1 (Edges 0xaaaaaaaa)))
+unfolding each bankSlot bankKind bankFlagBits bankPriorityBits bankEdgeBits
+bank-words w p n e = rw (ne-eqb w 31 n, e)
 
-bank-runs : (w : ℕ) → ¬ (w ≡ 31)
+bank-runs : (w p : ℕ) → ¬ (w ≡ 31) → p ≡ 256 + 16 * w
     → bankSlots w
-    ≡ wordSlots (256 + 16 * w) 5 (Within 0xffffffff)
-    ++ (wordSlots (256 + 16 * w + 5) 8 (Within 0xf8f8f8f8) ++ (wordSlots (256 + 16 * w + 13) 1 (Edges 0xaaaaaaaa) ++ wordSlots (256 + 16 * w + 14) 1 (Edges 0xaaaaaaaa)))
-bank-runs w n =
-    rw (words-from (256 + 16 * w) 0 5 (256 + 16 * w) (Within 0xffffffff) (omega arith), words-from (256 + 16 * w) 5 8 (256 + 16 * w + 5) (Within 0xf8f8f8f8) refl) (bank-words w n)
+    ≡ wordSlots (p + groupField) 5 (Within flagBits)
+    ++ (wordSlots (p + priorityField) 8 (Within priorityBits) ++ (wordSlots (p + edgeField) 1 (Edges 0xaaaaaaaa) ++ wordSlots (p + (edgeField + 1)) 1 (Edges 0xaaaaaaaa)))
+bank-runs w p n e = rw (words-from p groupField 5 (p + groupField) (Within flagBits) refl, words-from p priorityField 8 (p + priorityField) (Within priorityBits) refl) (bank-words w p n e)
 
-last-runs : bankSlots 31 ≡ wordSlots 752 5 (Within 0x0fffffff) ++ (wordSlots 757 7 (Within 0xf8f8f8f8) ++ (wordSlots 764 1 (Within 0) ++ (wordSlots 765 1 (Edges 0xaaaaaaaa) ++ wordSlots 766 1 (Edges 0x00aaaaaa))))
-unfolding each bankSlot bankKind flagBits priorityBits edgeBits
-last-runs = refl
+last-runs : (p : ℕ) → p ≡ 752
+    → bankSlots 31
+    ≡ wordSlots (p + groupField) 5 (Within lastFlagBits)
+    ++ (wordSlots (p + priorityField) 7 (Within priorityBits) ++ (wordSlots (p + (priorityField + 7)) 1 (Within 0) ++ (wordSlots (p + edgeField) 1 (Edges 0xaaaaaaaa) ++ wordSlots (p + (edgeField + 1)) 1 (Edges 0x00aaaaaa))))
+unfolding each bankSlot bankKind bankFlagBits bankPriorityBits bankEdgeBits
+last-runs p e = rw e
 
 interface-words : (p : ℕ)
     → interfaceSlots p
-    ≡ wordSlots (p + 19) 1 (Within 0xf8) ++ (wordSlots (p + 20) 1 (Above 0x400 2) ++ (wordSlots (p + 21) 1 (Point 2) ++ (wordSlots (p + 22) 1 (Point 3)
-    ++ (run (λ j. Word (p + j) (Within 0xffffffff)) 23 2 ++ run (λ j. Word (p + j) (Within 1)) 25 2))))
+    ≡ wordSlots (p + 19) 1 (Within pmrBits) ++ (wordSlots (p + 20) 1 (Above iccCtlrFixed iccCtlrBits) ++ (wordSlots (p + 21) 1 (Point (leastBpr 0)) ++ (wordSlots (p + 22) 1 (Point (leastBpr 1))
+    ++ (run (λ j. Word (p + j) (Within aprBits)) 23 2 ++ run (λ j. Word (p + j) (Within oneBit)) 25 2))))
 unfolding each interfaceKind
 interface-words p = refl
 
 interface-runs : (p : ℕ)
     → interfaceSlots p
-    ≡ wordSlots (p + 19) 1 (Within 0xf8) ++ (wordSlots (p + 20) 1 (Above 0x400 2) ++ (wordSlots (p + 21) 1 (Point 2) ++ (wordSlots (p + 22) 1 (Point 3) ++ (wordSlots (p + 23) 2 (Within 0xffffffff) ++ wordSlots (p + 25) 2 (Within 1)))))
-interface-runs p = rw (words-from p 23 2 (p + 23) (Within 0xffffffff) refl, words-from p 25 2 (p + 25) (Within 1) refl) (interface-words p)
+    ≡ wordSlots (p + 19) 1 (Within pmrBits) ++ (wordSlots (p + 20) 1 (Above iccCtlrFixed iccCtlrBits) ++ (wordSlots (p + 21) 1 (Point (leastBpr 0)) ++ (wordSlots (p + 22) 1 (Point (leastBpr 1)) ++ (wordSlots (p + 23) 2 (Within aprBits) ++ wordSlots (p + 25) 2 (Within oneBit)))))
+interface-runs p = rw (words-from p 23 2 (p + 23) (Within aprBits) refl, words-from p 25 2 (p + 25) (Within oneBit) refl) (interface-words p)
 
 vcpu-words : (v p : ℕ) → p ≡ block v
     → vcpuSlots v
-    ≡ wordSlots (p + 18) 1 (Within 15) ++ (run (λ j. Word (p + j) (Within 0xffffffff)) 0 4 ++ (wordSlots (p + 4) 1 (Within 0xffff0000) ++ (run (λ j. Word (p + j) (Within 0xf8f8f8f8)) 5 8 ++ interfaceSlots p)))
+    ≡ wordSlots (p + 18) 1 (Within statusrBits) ++ (run (λ j. Word (p + j) (Within flagBits)) groupField 4 ++ (wordSlots (p + lineField) 1 (Within ppiBits) ++ (run (λ j. Word (p + j) (Within priorityBits)) priorityField 8 ++ interfaceSlots p)))
 unfolding each vcpuSlot privateKind
 vcpu-words v p e = rw e
 
 vcpu-runs : (v p : ℕ) → p ≡ block v
-    → vcpuSlots v ≡ wordSlots (p + 18) 1 (Within 15) ++ (wordSlots p 4 (Within 0xffffffff) ++ (wordSlots (p + 4) 1 (Within 0xffff0000) ++ (wordSlots (p + 5) 8 (Within 0xf8f8f8f8) ++ interfaceSlots p)))
-vcpu-runs v p e = rw (words-from p 0 4 p (Within 0xffffffff) (omega arith), words-from p 5 8 (p + 5) (Within 0xf8f8f8f8) refl) (vcpu-words v p e)
+    → vcpuSlots v ≡ wordSlots (p + 18) 1 (Within statusrBits) ++ (wordSlots (p + groupField) 4 (Within flagBits) ++ (wordSlots (p + lineField) 1 (Within ppiBits) ++ (wordSlots (p + priorityField) 8 (Within priorityBits) ++ interfaceSlots p)))
+vcpu-runs v p e = rw (words-from p groupField 4 (p + groupField) (Within flagBits) refl, words-from p priorityField 8 (p + priorityField) (Within priorityBits) refl) (vcpu-words v p e)
 
 module _ {bytes : List ℕ} {store : Bool} {from : Step} {s : List ℕ} where
-  pub bank-loaded : (w : ℕ) → ¬ (w ≡ 31) → (s₁ : List ℕ) (q₁ : Step) → Loads (wordSlots (256 + 16 * w) 5 (Within 0xffffffff)) bytes store from s s₁ q₁
-      → (s₂ : List ℕ) (q₂ : Step) → Loads (wordSlots (256 + 16 * w + 5) 8 (Within 0xf8f8f8f8)) bytes store q₁ s₁ s₂ q₂
-      → (s₃ : List ℕ) (q₃ : Step) → Loads (wordSlots (256 + 16 * w + 13) 1 (Edges 0xaaaaaaaa)) bytes store q₂ s₂ s₃ q₃
-      → (s₄ : List ℕ) (q₄ : Step) → Loads (wordSlots (256 + 16 * w + 14) 1 (Edges 0xaaaaaaaa)) bytes store q₃ s₃ s₄ q₄ → Loads (bankSlots w) bytes store from s s₄ q₄
-  bank-loaded w n s₁ q₁ a s₂ q₂ b s₃ q₃ c s₄ q₄ d = rw (bank-runs w n) (loads-then a (loads-then b (loads-then c d)))
+  pub bank-loaded : (w p : ℕ) → ¬ (w ≡ 31) → p ≡ 256 + 16 * w → (s₁ : List ℕ) (q₁ : Step) → Loads (wordSlots (p + groupField) 5 (Within flagBits)) bytes store from s s₁ q₁
+      → (s₂ : List ℕ) (q₂ : Step) → Loads (wordSlots (p + priorityField) 8 (Within priorityBits)) bytes store q₁ s₁ s₂ q₂
+      → (s₃ : List ℕ) (q₃ : Step) → Loads (wordSlots (p + edgeField) 1 (Edges 0xaaaaaaaa)) bytes store q₂ s₂ s₃ q₃
+      → (s₄ : List ℕ) (q₄ : Step) → Loads (wordSlots (p + (edgeField + 1)) 1 (Edges 0xaaaaaaaa)) bytes store q₃ s₃ s₄ q₄ → Loads (bankSlots w) bytes store from s s₄ q₄
+  bank-loaded w p n z s₁ q₁ a s₂ q₂ b s₃ q₃ c s₄ q₄ d = rw (bank-runs w p n z) (loads-then a (loads-then b (loads-then c d)))
 
-  pub last-loaded : (s₁ : List ℕ) (q₁ : Step) → Loads (wordSlots 752 5 (Within 0x0fffffff)) bytes store from s s₁ q₁
-      → (s₂ : List ℕ) (q₂ : Step) → Loads (wordSlots 757 7 (Within 0xf8f8f8f8)) bytes store q₁ s₁ s₂ q₂
-      → (s₃ : List ℕ) (q₃ : Step) → Loads (wordSlots 764 1 (Within 0)) bytes store q₂ s₂ s₃ q₃
-      → (s₄ : List ℕ) (q₄ : Step) → Loads (wordSlots 765 1 (Edges 0xaaaaaaaa)) bytes store q₃ s₃ s₄ q₄
-      → (s₅ : List ℕ) (q₅ : Step) → Loads (wordSlots 766 1 (Edges 0x00aaaaaa)) bytes store q₄ s₄ s₅ q₅ → Loads (bankSlots 31) bytes store from s s₅ q₅
-  last-loaded s₁ q₁ a s₂ q₂ b s₃ q₃ c s₄ q₄ d s₅ q₅ e = rw last-runs (loads-then a (loads-then b (loads-then c (loads-then d e))))
+  pub last-loaded : (p : ℕ) → p ≡ 752 → (s₁ : List ℕ) (q₁ : Step) → Loads (wordSlots (p + groupField) 5 (Within lastFlagBits)) bytes store from s s₁ q₁
+      → (s₂ : List ℕ) (q₂ : Step) → Loads (wordSlots (p + priorityField) 7 (Within priorityBits)) bytes store q₁ s₁ s₂ q₂
+      → (s₃ : List ℕ) (q₃ : Step) → Loads (wordSlots (p + (priorityField + 7)) 1 (Within 0)) bytes store q₂ s₂ s₃ q₃
+      → (s₄ : List ℕ) (q₄ : Step) → Loads (wordSlots (p + edgeField) 1 (Edges 0xaaaaaaaa)) bytes store q₃ s₃ s₄ q₄
+      → (s₅ : List ℕ) (q₅ : Step) → Loads (wordSlots (p + (edgeField + 1)) 1 (Edges 0x00aaaaaa)) bytes store q₄ s₄ s₅ q₅ → Loads (bankSlots 31) bytes store from s s₅ q₅
+  last-loaded p z s₁ q₁ a s₂ q₂ b s₃ q₃ c s₄ q₄ d s₅ q₅ e = rw (last-runs p z) (loads-then a (loads-then b (loads-then c (loads-then d e))))
 
   pub last-is : (w : ℕ) → w ≡ 31 → (s₁ : List ℕ) (q₁ : Step) → Loads (bankSlots 31) bytes store from s s₁ q₁ → Loads (bankSlots w) bytes store from s s₁ q₁
   last-is w e s₁ q₁ a = rw e a
 
-  pub interface-loaded : (p : ℕ) (s₁ : List ℕ) (q₁ : Step) → Loads (wordSlots (p + 19) 1 (Within 0xf8)) bytes store from s s₁ q₁
-      → (s₂ : List ℕ) (q₂ : Step) → Loads (wordSlots (p + 20) 1 (Above 0x400 2)) bytes store q₁ s₁ s₂ q₂
-      → (s₃ : List ℕ) (q₃ : Step) → Loads (wordSlots (p + 21) 1 (Point 2)) bytes store q₂ s₂ s₃ q₃
-      → (s₄ : List ℕ) (q₄ : Step) → Loads (wordSlots (p + 22) 1 (Point 3)) bytes store q₃ s₃ s₄ q₄
-      → (s₅ : List ℕ) (q₅ : Step) → Loads (wordSlots (p + 23) 2 (Within 0xffffffff)) bytes store q₄ s₄ s₅ q₅
-      → (s₆ : List ℕ) (q₆ : Step) → Loads (wordSlots (p + 25) 2 (Within 1)) bytes store q₅ s₅ s₆ q₆ → Loads (interfaceSlots p) bytes store from s s₆ q₆
+  pub interface-loaded : (p : ℕ) (s₁ : List ℕ) (q₁ : Step) → Loads (wordSlots (p + 19) 1 (Within pmrBits)) bytes store from s s₁ q₁
+      → (s₂ : List ℕ) (q₂ : Step) → Loads (wordSlots (p + 20) 1 (Above iccCtlrFixed iccCtlrBits)) bytes store q₁ s₁ s₂ q₂
+      → (s₃ : List ℕ) (q₃ : Step) → Loads (wordSlots (p + 21) 1 (Point (leastBpr 0))) bytes store q₂ s₂ s₃ q₃
+      → (s₄ : List ℕ) (q₄ : Step) → Loads (wordSlots (p + 22) 1 (Point (leastBpr 1))) bytes store q₃ s₃ s₄ q₄
+      → (s₅ : List ℕ) (q₅ : Step) → Loads (wordSlots (p + 23) 2 (Within aprBits)) bytes store q₄ s₄ s₅ q₅
+      → (s₆ : List ℕ) (q₆ : Step) → Loads (wordSlots (p + 25) 2 (Within oneBit)) bytes store q₅ s₅ s₆ q₆ → Loads (interfaceSlots p) bytes store from s s₆ q₆
   interface-loaded p s₁ q₁ a s₂ q₂ b s₃ q₃ c s₄ q₄ d s₅ q₅ e s₆ q₆ f = rw (interface-runs p) (loads-then a (loads-then b (loads-then c (loads-then d (loads-then e f)))))
 
-  pub vcpu-loaded : (v p : ℕ) → p ≡ block v → (s₁ : List ℕ) (q₁ : Step) → Loads (wordSlots (p + 18) 1 (Within 15)) bytes store from s s₁ q₁
-      → (s₂ : List ℕ) (q₂ : Step) → Loads (wordSlots p 4 (Within 0xffffffff)) bytes store q₁ s₁ s₂ q₂
-      → (s₃ : List ℕ) (q₃ : Step) → Loads (wordSlots (p + 4) 1 (Within 0xffff0000)) bytes store q₂ s₂ s₃ q₃
-      → (s₄ : List ℕ) (q₄ : Step) → Loads (wordSlots (p + 5) 8 (Within 0xf8f8f8f8)) bytes store q₃ s₃ s₄ q₄
+  pub vcpu-loaded : (v p : ℕ) → p ≡ block v → (s₁ : List ℕ) (q₁ : Step) → Loads (wordSlots (p + 18) 1 (Within statusrBits)) bytes store from s s₁ q₁
+      → (s₂ : List ℕ) (q₂ : Step) → Loads (wordSlots (p + groupField) 4 (Within flagBits)) bytes store q₁ s₁ s₂ q₂
+      → (s₃ : List ℕ) (q₃ : Step) → Loads (wordSlots (p + lineField) 1 (Within ppiBits)) bytes store q₂ s₂ s₃ q₃
+      → (s₄ : List ℕ) (q₄ : Step) → Loads (wordSlots (p + priorityField) 8 (Within priorityBits)) bytes store q₃ s₃ s₄ q₄
       → (s₅ : List ℕ) (q₅ : Step) → Loads (interfaceSlots p) bytes store q₄ s₄ s₅ q₅ → Loads (vcpuSlots v) bytes store from s s₅ q₅
   vcpu-loaded v p z s₁ q₁ a s₂ q₂ b s₃ q₃ c s₄ q₄ d s₅ q₅ e = rw (vcpu-runs v p z) (loads-then a (loads-then b (loads-then c (loads-then d e))))
 
@@ -283,18 +288,18 @@ module _ (bytes : List ℕ) (last : Step) where
 
 -- ---- the whole record
 
-route-runs : (m : ℕ) → run routeSlot 32 m ≡ wordSlots 768 m (Within 0x00ffffff)
-route-runs m = sym (words-from 736 32 m 768 (Within 0x00ffffff) refl)
+route-runs : (m : ℕ) → run routeSlot 32 m ≡ wordSlots 768 m (Within routeBits)
+route-runs m = sym (words-from 736 32 m 768 (Within routeBits) refl)
 
 slots-lists : (c n : ℕ)
     → slots c n
-    ≡ run Header 0 (3 + n) ++ (wordSlots 3 1 (Above 0x50 3) ++ (wordSlots 4 1 (Within 15) ++ (each bankSlots 1 (spiWords c) ++ (run routeSlot 32 (spis c) ++ each vcpuSlots 0 n))))
+    ≡ run Header 0 (3 + n) ++ (wordSlots enablesAt 1 (Above gicdCtlrFixed gicdCtlrBits) ++ (wordSlots distributorStatusAt 1 (Within statusrBits) ++ (each bankSlots 1 (spiWords c) ++ (run routeSlot 32 (spis c) ++ each vcpuSlots 0 n))))
 unfolding slots each
 slots-lists c n = refl
 
 slots-runs : (c n m : ℕ) → m ≡ spis c
     → slots c n
-    ≡ run Header 0 (3 + n) ++ (wordSlots 3 1 (Above 0x50 3) ++ (wordSlots 4 1 (Within 15) ++ (each bankSlots 1 (spiWords c) ++ (wordSlots 768 m (Within 0x00ffffff) ++ each vcpuSlots 0 n))))
+    ≡ run Header 0 (3 + n) ++ (wordSlots enablesAt 1 (Above gicdCtlrFixed gicdCtlrBits) ++ (wordSlots distributorStatusAt 1 (Within statusrBits) ++ (each bankSlots 1 (spiWords c) ++ (wordSlots 768 m (Within routeBits) ++ each vcpuSlots 0 n))))
 slots-runs c n m e = rw (← (route-runs m), e) (slots-lists c n)
 
 -- the routes stand in the state
@@ -303,10 +308,10 @@ routes-inside c m e = omega arith
 
 module _ (t bytes : List ℕ) (store : Bool) (h : Fresh t) (g : Where store (faultOf (restored t bytes) ≡ None)) where
   pub record-loaded : (q₁ : Step) → Heads t (run Header 0 (3 + vcpus t)) bytes q₁
-      → (s₂ : List ℕ) (q₂ : Step) → Loads (wordSlots 3 1 (Above 0x50 3)) bytes store q₁ t s₂ q₂
-      → (s₃ : List ℕ) (q₃ : Step) → Loads (wordSlots 4 1 (Within 15)) bytes store q₂ s₂ s₃ q₃
+      → (s₂ : List ℕ) (q₂ : Step) → Loads (wordSlots enablesAt 1 (Above gicdCtlrFixed gicdCtlrBits)) bytes store q₁ t s₂ q₂
+      → (s₃ : List ℕ) (q₃ : Step) → Loads (wordSlots distributorStatusAt 1 (Within statusrBits)) bytes store q₂ s₂ s₃ q₃
       → (s₄ : List ℕ) (q₄ : Step) → Loads (each bankSlots 1 (spiWords (count t))) bytes store q₃ s₃ s₄ q₄
-      → (m : ℕ) → m ≡ spis (count t) → (s₅ : List ℕ) (q₅ : Step) → Loads (wordSlots 768 m (Within 0x00ffffff)) bytes store q₄ s₄ s₅ q₅
+      → (m : ℕ) → m ≡ spis (count t) → (s₅ : List ℕ) (q₅ : Step) → Loads (wordSlots 768 m (Within routeBits)) bytes store q₄ s₄ s₅ q₅
       → (s₆ : List ℕ) (q₆ : Step) → Loads (each vcpuSlots 0 (vcpus t)) bytes store q₅ s₅ s₆ q₆ → (r : Refusal) → r ≡ endOf bytes q₆ → Passes t bytes store r s₆
   record-loaded q₁ a s₂ q₂ b s₃ q₃ c s₄ q₄ d m z s₅ q₅ e s₆ q₆ f r k =
       carries-all t h bytes store q₆ s₆ g

@@ -8,7 +8,8 @@ use borrow.Author.Tests.{eqb-true, eq-eqb, ne-eqb}
 use lib.Dec.{eqb}
 use lib.ListN.{getD}
 use Rattle.model.specs.Words.{bit, gather, each, allBelow, spread}
-use Rattle.model.specs.Layout.{mostVcpus, word, count, vcpus, affinity, block, routeAt}
+use Rattle.model.specs.Values.{gicdCtlrFixed, gicdCtlrBits, iccCtlrFixed, iccCtlrBits, flagBits, ppiBits, priorityBits, routeBits, statusrBits, pmrBits, aprBits, oneBit}
+use Rattle.model.specs.Layout.{mostVcpus, word, count, vcpus, affinity, block, routeAt, enablesAt, distributorStatusAt, leastBpr}
 use Rattle.model.specs.Sound.{fits, usedBits, blockBits, bankBits, lastBankBits}
 use Rattle.model.specs.Attributes.{Attribute}
 use Rattle.model.specs.Record.{spiWords, spis, ofSpiWord, ofRoute, ofVcpuBlock, listed, Entry, header, attributeOf, entries}
@@ -21,7 +22,7 @@ use Rattle.model.proofs.Places.{Shape, itself, edges, above, placeOf, shapeOf}
 use Rattle.model.proofs.Places as places
 use Rattle.model.proofs.Cover as cover
 use Rattle.words.specs.Words.{collect}
-use Rattle.record.specs.Slots.{shown, flagBits, priorityBits, edgeBits, bankKind, bankSlot, bankSlots, privateKind, interfaceKind, vcpuSlot, vcpuSlots, routeSlot, run, slots, headerAt, Sized}
+use Rattle.record.specs.Slots.{shown, bankFlagBits, bankPriorityBits, bankEdgeBits, bankKind, bankSlot, bankSlots, privateKind, interfaceKind, vcpuSlot, vcpuSlots, routeSlot, run, slots, headerAt, Sized}
 use Rattle.record.specs.declared.slots.Kind.{Kind}
 use Rattle.record.specs.declared.slots.Kind.the-variants.{Within, Above, Point}
 use Rattle.record.specs.declared.slots.Slot.{Slot}
@@ -44,17 +45,17 @@ pub data Means (s : List ℕ) : Entry → Slot → Type 0 where
 
 -- the masks of a bank, and of the last one, by one computed test
 bank-masks : allBelow (λ j. eqb (getD bankBits j 0) (maskOf (bankKind false j)) && eqb (getD lastBankBits j 0) (maskOf (bankKind true j))) 15 ≡ true
-unfolding allBelow bankKind flagBits priorityBits edgeBits collect gather bit
+unfolding allBelow bankKind bankFlagBits bankPriorityBits bankEdgeBits collect gather bit
 bank-masks = refl
 
 -- a mask of edge flags has only upper bits
-tidy-edges : (last : Bool) → spread (collect (edgeBits last 14)) ≡ edgeBits last 14
-unfolding edgeBits spread collect gather bit
+tidy-edges : (last : Bool) → spread (collect (bankEdgeBits last 14)) ≡ bankEdgeBits last 14
+unfolding bankEdgeBits spread collect gather bit
 tidy-edges true = refl
 tidy-edges false = refl
 
-tidy-first : (last : Bool) → spread (collect (edgeBits last 13)) ≡ edgeBits last 13
-unfolding edgeBits spread collect gather bit
+tidy-first : (last : Bool) → spread (collect (bankEdgeBits last 13)) ≡ bankEdgeBits last 13
+unfolding bankEdgeBits spread collect gather bit
 tidy-first true = refl
 tidy-first false = refl
 
@@ -123,34 +124,34 @@ module _ (s : List ℕ) (h : Ready s) where
   unfolding ofRoute shown
   route-means id l m =
       let n : id < min (count s) 1020 = omega (arith, h .counted .least) in
-      one (lists (spi-route id l n) (outside-kind (routeAt id) itself (Within 0x00ffffff)
+      one (lists (spi-route id l n) (outside-kind (routeAt id) itself (Within routeBits)
       (record { past = omega arith; inside = omega arith; apart = λ v j a b e. omega arith }) refl tt (route-bits (count s) (vcpus s) id l n) (λ u. refl))) none
 
   vcpu-means : (v : ℕ) → v < vcpus s → Lists (ofVcpuBlock s v) (vcpuSlots v)
   unfolding ofVcpuBlock each vcpuSlot privateKind interfaceKind shown
   vcpu-means v l =
-      one (lists (vcpu-status v l) (block-kind v 18 itself (Within 15) l (λ w q. omega arith) (λ d hd q. omega arith) tt refl (λ u. refl)))
-      (one (lists (vcpu-flags v groups l) (block-kind v 0 itself (Within 0xffffffff) l (λ w q. omega arith) (λ d hd q. omega arith) tt refl (λ u. refl)))
-      (one (lists (vcpu-flags v enables l) (block-kind v 1 itself (Within 0xffffffff) l (λ w q. omega arith) (λ d hd q. omega arith) tt refl (λ u. refl)))
-      (one (lists (vcpu-flags v latches l) (block-kind v 2 itself (Within 0xffffffff) l (λ w q. omega arith) (λ d hd q. omega arith) tt refl (λ u. refl)))
-      (one (lists (vcpu-flags v actives l) (block-kind v 3 itself (Within 0xffffffff) l (λ w q. omega arith) (λ d hd q. omega arith) tt refl (λ u. refl)))
-      (one (lists (vcpu-lines v l) (block-kind v 4 itself (Within 0xffff0000) l (λ w q. omega arith) (λ d hd q. omega arith) tt refl (λ u. refl)))
-      (one (lists (vcpu-priority v 0 l (omega arith)) (block-kind v 5 itself (Within 0xf8f8f8f8) l (λ w q. omega arith) (λ d hd q. omega arith) tt refl (λ u. refl)))
-      (one (lists (vcpu-priority v 1 l (omega arith)) (block-kind v 6 itself (Within 0xf8f8f8f8) l (λ w q. omega arith) (λ d hd q. omega arith) tt refl (λ u. refl)))
-      (one (lists (vcpu-priority v 2 l (omega arith)) (block-kind v 7 itself (Within 0xf8f8f8f8) l (λ w q. omega arith) (λ d hd q. omega arith) tt refl (λ u. refl)))
-      (one (lists (vcpu-priority v 3 l (omega arith)) (block-kind v 8 itself (Within 0xf8f8f8f8) l (λ w q. omega arith) (λ d hd q. omega arith) tt refl (λ u. refl)))
-      (one (lists (vcpu-priority v 4 l (omega arith)) (block-kind v 9 itself (Within 0xf8f8f8f8) l (λ w q. omega arith) (λ d hd q. omega arith) tt refl (λ u. refl)))
-      (one (lists (vcpu-priority v 5 l (omega arith)) (block-kind v 10 itself (Within 0xf8f8f8f8) l (λ w q. omega arith) (λ d hd q. omega arith) tt refl (λ u. refl)))
-      (one (lists (vcpu-priority v 6 l (omega arith)) (block-kind v 11 itself (Within 0xf8f8f8f8) l (λ w q. omega arith) (λ d hd q. omega arith) tt refl (λ u. refl)))
-      (one (lists (vcpu-priority v 7 l (omega arith)) (block-kind v 12 itself (Within 0xf8f8f8f8) l (λ w q. omega arith) (λ d hd q. omega arith) tt refl (λ u. refl)))
-      (one (lists (vcpu-system v pmr l) (block-kind v 19 itself (Within 0xf8) l (λ w q. omega arith) (λ d hd q. omega arith) tt refl (λ u. refl)))
-      (one (lists (vcpu-system v ctlr l) (block-kind v 20 (above 0x400) (Above 0x400 2) l (λ w q. omega arith) (λ d hd q. omega arith) tt refl (λ u. refl)))
-      (one (lists (vcpu-system v bpr0 l) (block-kind v 21 itself (Point 2) l (λ w q. omega arith) (λ d hd q. open-vcpu d v (hd .each-vcpu v q) .bpr0) tt refl (λ u. refl)))
-      (one (lists (vcpu-system v bpr1 l) (block-kind v 22 itself (Point 3) l (λ w q. omega arith) (λ d hd q. open-vcpu d v (hd .each-vcpu v q) .bpr1) tt refl (λ u. refl)))
-      (one (lists (vcpu-system v ap0r l) (block-kind v 23 itself (Within 0xffffffff) l (λ w q. omega arith) (λ d hd q. omega arith) tt refl (λ u. refl)))
-      (one (lists (vcpu-system v ap1r l) (block-kind v 24 itself (Within 0xffffffff) l (λ w q. omega arith) (λ d hd q. omega arith) tt refl (λ u. refl)))
-      (one (lists (vcpu-system v igrpen0 l) (block-kind v 25 itself (Within 1) l (λ w q. omega arith) (λ d hd q. omega arith) tt refl (λ u. refl)))
-      (one (lists (vcpu-system v igrpen1 l) (block-kind v 26 itself (Within 1) l (λ w q. omega arith) (λ d hd q. omega arith) tt refl (λ u. refl)))
+      one (lists (vcpu-status v l) (block-kind v 18 itself (Within statusrBits) l (λ w q. omega arith) (λ d hd q. omega arith) tt refl (λ u. refl)))
+      (one (lists (vcpu-flags v groups l) (block-kind v 0 itself (Within flagBits) l (λ w q. omega arith) (λ d hd q. omega arith) tt refl (λ u. refl)))
+      (one (lists (vcpu-flags v enables l) (block-kind v 1 itself (Within flagBits) l (λ w q. omega arith) (λ d hd q. omega arith) tt refl (λ u. refl)))
+      (one (lists (vcpu-flags v latches l) (block-kind v 2 itself (Within flagBits) l (λ w q. omega arith) (λ d hd q. omega arith) tt refl (λ u. refl)))
+      (one (lists (vcpu-flags v actives l) (block-kind v 3 itself (Within flagBits) l (λ w q. omega arith) (λ d hd q. omega arith) tt refl (λ u. refl)))
+      (one (lists (vcpu-lines v l) (block-kind v 4 itself (Within ppiBits) l (λ w q. omega arith) (λ d hd q. omega arith) tt refl (λ u. refl)))
+      (one (lists (vcpu-priority v 0 l (omega arith)) (block-kind v 5 itself (Within priorityBits) l (λ w q. omega arith) (λ d hd q. omega arith) tt refl (λ u. refl)))
+      (one (lists (vcpu-priority v 1 l (omega arith)) (block-kind v 6 itself (Within priorityBits) l (λ w q. omega arith) (λ d hd q. omega arith) tt refl (λ u. refl)))
+      (one (lists (vcpu-priority v 2 l (omega arith)) (block-kind v 7 itself (Within priorityBits) l (λ w q. omega arith) (λ d hd q. omega arith) tt refl (λ u. refl)))
+      (one (lists (vcpu-priority v 3 l (omega arith)) (block-kind v 8 itself (Within priorityBits) l (λ w q. omega arith) (λ d hd q. omega arith) tt refl (λ u. refl)))
+      (one (lists (vcpu-priority v 4 l (omega arith)) (block-kind v 9 itself (Within priorityBits) l (λ w q. omega arith) (λ d hd q. omega arith) tt refl (λ u. refl)))
+      (one (lists (vcpu-priority v 5 l (omega arith)) (block-kind v 10 itself (Within priorityBits) l (λ w q. omega arith) (λ d hd q. omega arith) tt refl (λ u. refl)))
+      (one (lists (vcpu-priority v 6 l (omega arith)) (block-kind v 11 itself (Within priorityBits) l (λ w q. omega arith) (λ d hd q. omega arith) tt refl (λ u. refl)))
+      (one (lists (vcpu-priority v 7 l (omega arith)) (block-kind v 12 itself (Within priorityBits) l (λ w q. omega arith) (λ d hd q. omega arith) tt refl (λ u. refl)))
+      (one (lists (vcpu-system v pmr l) (block-kind v 19 itself (Within pmrBits) l (λ w q. omega arith) (λ d hd q. omega arith) tt refl (λ u. refl)))
+      (one (lists (vcpu-system v ctlr l) (block-kind v 20 (above iccCtlrFixed) (Above iccCtlrFixed iccCtlrBits) l (λ w q. omega arith) (λ d hd q. omega arith) tt refl (λ u. refl)))
+      (one (lists (vcpu-system v bpr0 l) (block-kind v 21 itself (Point (leastBpr 0)) l (λ w q. omega arith) (λ d hd q. open-vcpu d v (hd .each-vcpu v q) .bpr0) tt refl (λ u. refl)))
+      (one (lists (vcpu-system v bpr1 l) (block-kind v 22 itself (Point (leastBpr 1)) l (λ w q. omega arith) (λ d hd q. open-vcpu d v (hd .each-vcpu v q) .bpr1) tt refl (λ u. refl)))
+      (one (lists (vcpu-system v ap0r l) (block-kind v 23 itself (Within aprBits) l (λ w q. omega arith) (λ d hd q. omega arith) tt refl (λ u. refl)))
+      (one (lists (vcpu-system v ap1r l) (block-kind v 24 itself (Within aprBits) l (λ w q. omega arith) (λ d hd q. omega arith) tt refl (λ u. refl)))
+      (one (lists (vcpu-system v igrpen0 l) (block-kind v 25 itself (Within oneBit) l (λ w q. omega arith) (λ d hd q. omega arith) tt refl (λ u. refl)))
+      (one (lists (vcpu-system v igrpen1 l) (block-kind v 26 itself (Within oneBit) l (λ w q. omega arith) (λ d hd q. omega arith) tt refl (λ u. refl)))
       none)))))))))))))))))))))
 
   -- the affinities, from the b-th on
@@ -164,15 +165,15 @@ module _ (s : List ℕ) (h : Ready s) where
           let z : c - 3 ≡ b = omega arith in
           rw (ne-eqb c 0 (λ q. omega arith), ne-eqb c 1 (λ q. omega arith), ne-eqb c 2 (λ q. omega arith), z)
 
-  control-kind : KindOf s 3 (above 0x50) (Above 0x50 3)
+  control-kind : KindOf s 3 (above gicdCtlrFixed) (Above gicdCtlrFixed gicdCtlrBits)
   unfolding shown
-  control-kind = outside-kind 3 (above 0x50) (Above 0x50 3) (record { past = omega arith; inside = omega arith; apart = λ v j a b e. omega arith }) refl tt (header-bits (count s) (vcpus s) 3 (omega arith)) (λ u. refl)
+  control-kind = outside-kind 3 (above gicdCtlrFixed) (Above gicdCtlrFixed gicdCtlrBits) (record { past = omega arith; inside = omega arith; apart = λ v j a b e. omega arith }) refl tt (header-bits (count s) (vcpus s) 3 (omega arith)) (λ u. refl)
 
-  status-kind : KindOf s 4 itself (Within 15)
+  status-kind : KindOf s 4 itself (Within statusrBits)
   unfolding shown
-  status-kind = outside-kind 4 itself (Within 15) (record { past = omega arith; inside = omega arith; apart = λ v j a b e. omega arith }) refl tt (header-bits (count s) (vcpus s) 4 (omega arith)) (λ u. refl)
+  status-kind = outside-kind 4 itself (Within statusrBits) (record { past = omega arith; inside = omega arith; apart = λ v j a b e. omega arith }) refl tt (header-bits (count s) (vcpus s) 4 (omega arith)) (λ u. refl)
 
-  listed-mean : Lists (listed s) (Word 3 (Above 0x50 3) ∷ Word 4 (Within 15) ∷ (each bankSlots 1 (spiWords (count s)) ++ (run routeSlot 32 (spis (count s)) ++ each vcpuSlots 0 (vcpus s))))
+  listed-mean : Lists (listed s) (Word enablesAt (Above gicdCtlrFixed gicdCtlrBits) ∷ Word distributorStatusAt (Within statusrBits) ∷ (each bankSlots 1 (spiWords (count s)) ++ (run routeSlot 32 (spis (count s)) ++ each vcpuSlots 0 (vcpus s))))
   unfolding listed
   listed-mean =
       one (lists control control-kind) (one (lists status status-kind)

@@ -7,10 +7,11 @@ use mathlib.Core.Path.{_≡_}
 use lib.Dec.{eqb, ltb, leb}
 use lib.ListN.{set}
 use Rattle.model.specs.Words.{each, spread}
-use Rattle.model.specs.Layout.{mostVcpus, word, count, vcpus, affinity, block, routeAt}
+use Rattle.model.specs.Values.{gicdCtlrFixed, gicdCtlrBits, iccCtlrFixed, iccCtlrBits, version, flagBits, lastFlagBits, ppiBits, priorityBits, routeBits, statusrBits, pmrBits, bprBits, aprBits, oneBit}
+use Rattle.model.specs.Layout.{mostVcpus, word, count, vcpus, enablesAt, distributorStatusAt, affinity, block, frameStatusAt, leastBpr, lineField, priorityField, edgeField, routeAt}
 use Rattle.model.specs.Sound.{fits, stopped, fresh}
 use Rattle.model.specs.Refusals.{Check, firstFailing}
-use Rattle.model.specs.Record.{version, spiWords, spis, encode, decodeNumber, Loaded, done, fault, taking, faults, restored, loadedState}
+use Rattle.model.specs.Record.{spiWords, spis, encode, decodeNumber, Loaded, done, fault, taking, faults, restored, loadedState}
 use Rattle.model.specs.declared.Errno.the-variants.{Ebusy, Eexist, Einval, Ebadmsg}
 use Rattle.model.specs.declared.Refusal.{Refusal}
 use Rattle.model.specs.declared.Answer.{Answer}
@@ -41,21 +42,21 @@ unfoldable pub shows : Kind → ℕ → Bool
 shows (Within m) x = fits x m
 shows (Above b m) x = leb b x && fits (x - b) m
 shows (Edges m) x = fits x m
-shows (Point l) x = leb l x && leb x 7
+shows (Point l) x = leb l x && leb x bprBits
 
 -- ---- the words of an SPI bank; in the last one, of the SPI word 31, the interrupts from 1020 on do not exist
 
-unfoldable pub flagBits : Bool → ℕ
-flagBits last = cond last 0x0fffffff 0xffffffff
+unfoldable pub bankFlagBits : Bool → ℕ
+bankFlagBits last = cond last lastFlagBits flagBits
 
-unfoldable pub priorityBits : Bool → ℕ → ℕ
-priorityBits last j = cond (last && eqb j 12) 0 0xf8f8f8f8
+unfoldable pub bankPriorityBits : Bool → ℕ → ℕ
+bankPriorityBits last j = cond (last && eqb j 12) 0 priorityBits
 
-unfoldable pub edgeBits : Bool → ℕ → ℕ
-edgeBits last j = cond (last && eqb j 14) 0x00aaaaaa 0xaaaaaaaa
+unfoldable pub bankEdgeBits : Bool → ℕ → ℕ
+bankEdgeBits last j = cond (last && eqb j 14) 0x00aaaaaa 0xaaaaaaaa
 
 unfoldable pub bankKind : Bool → ℕ → Kind
-bankKind last j = cond (ltb j 5) (Within (flagBits last)) (cond (ltb j 13) (Within (priorityBits last j)) (Edges (edgeBits last j)))
+bankKind last j = cond (ltb j priorityField) (Within (bankFlagBits last)) (cond (ltb j edgeField) (Within (bankPriorityBits last j)) (Edges (bankEdgeBits last j)))
 
 unfoldable pub bankSlot : ℕ → ℕ → Slot
 bankSlot w j = Word (256 + 16 * w + j) (bankKind (eqb w 31) j)
@@ -63,21 +64,21 @@ bankSlot w j = Word (256 + 16 * w + j) (bankKind (eqb w 31) j)
 -- ---- the words of a vCPU's block
 
 unfoldable pub privateKind : ℕ → Kind
-privateKind j = cond (ltb j 4) (Within 0xffffffff) (cond (eqb j 4) (Within 0xffff0000) (Within 0xf8f8f8f8))
+privateKind j = cond (ltb j lineField) (Within flagBits) (cond (eqb j lineField) (Within ppiBits) (Within priorityBits))
 
 -- PMR, CTLR, BPR0, BPR1, AP0R, AP1R, IGRPEN0, IGRPEN1
 unfoldable pub interfaceKind : ℕ → Kind
 interfaceKind j =
-    cond (eqb j 0) (Within 0xf8)
-    (cond (eqb j 1) (Above 0x400 2)
-    (cond (eqb j 2) (Point 2)
-    (cond (eqb j 3) (Point 3)
-    (cond (ltb j 6) (Within 0xffffffff) (Within 1)))))
+    cond (eqb j 0) (Within pmrBits)
+    (cond (eqb j 1) (Above iccCtlrFixed iccCtlrBits)
+    (cond (eqb j 2) (Point (leastBpr 0))
+    (cond (eqb j 3) (Point (leastBpr 1))
+    (cond (ltb j 6) (Within aprBits) (Within oneBit)))))
 
 -- STATUSR, the bank without the edge flags, the CPU interface
 unfoldable pub vcpuSlot : ℕ → ℕ → Slot
 vcpuSlot v j =
-    cond (eqb j 0) (Word (block v + 18) (Within 15))
+    cond (eqb j 0) (Word (frameStatusAt v) (Within statusrBits))
     (cond (ltb j 14) (Word (block v + (j - 1)) (privateKind (j - 1))) (Word (block v + (j + 5)) (interfaceKind (j - 14))))
 
 -- ---- the order of the record
@@ -90,7 +91,7 @@ abbrev pub bankSlots : ℕ → List Slot
 bankSlots w = run (bankSlot w) 0 15
 
 abbrev pub routeSlot : ℕ → Slot
-routeSlot id = Word (routeAt id) (Within 0x00ffffff)
+routeSlot id = Word (routeAt id) (Within routeBits)
 
 abbrev pub vcpuSlots : ℕ → List Slot
 vcpuSlots v = run (vcpuSlot v) 0 22
@@ -99,7 +100,7 @@ vcpuSlots v = run (vcpuSlot v) 0 22
 unfoldable pub slots : ℕ → ℕ → List Slot
 slots c n =
     run Header 0 (3 + n)
-    ++ (Word 3 (Above 0x50 3) ∷ Word 4 (Within 15)
+    ++ (Word enablesAt (Above gicdCtlrFixed gicdCtlrBits) ∷ Word distributorStatusAt (Within statusrBits)
     ∷ (each bankSlots 1 (spiWords c) ++ (run routeSlot 32 (spis c) ++ each vcpuSlots 0 n)))
 
 abbrev pub slotsOf : List ℕ → List Slot

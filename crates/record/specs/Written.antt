@@ -4,6 +4,7 @@ use mathlib.Core.List.{List, [], _∷_, _++_}
 use mathlib.Core.Path.{_≡_}
 use lib.ListN.{length, take, drop}
 use lib.Seq.{sets}
+use Rattle.model.specs.Layout.{edgeField}
 use Rattle.model.specs.Record.{encode}
 
 -- the numbers of some words, one after the other
@@ -13,7 +14,7 @@ wordsBytes (x ∷ xs) = encode x ++ wordsBytes xs
 
 -- the flags and priorities of a bank that starts at p
 abbrev pub flagsFrom : List ℕ → ℕ → List ℕ
-flagsFrom s p = wordsBytes (take (p + 13 - p) (drop p s))
+flagsFrom s p = wordsBytes (take (p + edgeField - p) (drop p s))
 
 -- the bytes xs were written to b from `at` on: r is the place after them, b′ the buffer then
 pub record Wrote (b : List ℕ) (at : ℕ) (xs : List ℕ) (r : ℕ) (b′ : List ℕ) : Type 0 where

@@ -3,7 +3,6 @@ use crate::number::number_length;
 use crate::slots::header_at;
 use crate::slots::slot_count;
 use crate::slots::spi_count;
-use model::layout::BANK_LENGTH;
 use model::layout::BPR0;
 use model::layout::COUNT;
 use model::layout::CTLR;
@@ -15,14 +14,18 @@ use model::layout::PMR;
 use model::layout::ROUTES;
 use model::layout::STATUS;
 use model::layout::VCPUS;
+use model::values::GICD_CTLR_FIXED;
+use model::values::ICC_CTLR_FIXED;
 use state::VcpuIndex;
 use state::block_at;
+use state::spi_bank_at;
 use words::config_of;
 ghost use mathlib.Core.Path.{_≡_};
 ghost use Prim.Native.Nat.{_+_, _≤_, _<_};
 ghost use lib.Dec.{leb};
 ghost use lib.ListN.{length};
 ghost use Rattle.model.specs.Words.{each};
+ghost use Rattle.model.specs.Values.{iccCtlrBits};
 ghost use Rattle.model.specs.Layout.{stateLength, mostVcpus, word, vcpus, ctlrAt};
 ghost use Rattle.model.specs.Record.{spiWords, recordOf};
 ghost use Rattle.model.specs.Demands.{Stopped};
@@ -64,7 +67,7 @@ fn bank_length(s: &[u32], w: usize) -> usize
     requires { ⌜ (length (now s) ≡ stateLength) × (w < 32) ⌝ }
     ensures { λ r. ⌜ Counts (slotBytes (now (s .entry)) (bankSlots w)) r ⌝ }
 {
-    let bank = 256 + BANK_LENGTH * w;
+    let bank = spi_bank_at(w);
     let flags = words_length(&s[bank..bank + EDGES]);
     flags
         + number_length(config_of(s[bank + EDGES]))
@@ -88,12 +91,12 @@ fn banks_length(s: &[u32], count: usize) -> usize
 
 // The block of vCPU `v`.
 fn vcpu_length(s: &[u32], v: VcpuIndex) -> usize
-    requires { ⌜ (length (now s) ≡ stateLength) × (v .0 < mostVcpus) × (word (now s) (ctlrAt (v .0)) ≤ 2) ⌝ }
+    requires { ⌜ (length (now s) ≡ stateLength) × (v .0 < mostVcpus) × (word (now s) (ctlrAt (v .0)) ≤ iccCtlrBits) ⌝ }
     ensures { λ r. ⌜ Counts (slotBytes (now (s .entry)) (vcpuSlots (v .0))) r ⌝ }
 {
     let block = block_at(v);
     let frame = number_length(s[block + FRAME_STATUS]) + words_length(&s[block..block + EDGES]);
-    let controls = number_length(s[block + PMR]) + number_length(0x400 + s[block + CTLR]);
+    let controls = number_length(s[block + PMR]) + number_length(ICC_CTLR_FIXED + s[block + CTLR]);
     frame + controls + words_length(&s[block + BPR0..block + (IGRPEN0 + 2)])
 }
 
@@ -118,7 +121,9 @@ fn record_length(s: &[u32]) -> usize
 {
     let count = s[COUNT] as usize;
     let n = s[VCPUS] as usize;
-    let front = header_length(s, n) + number_length(0x50 + s[ENABLES]) + number_length(s[STATUS]);
+    let front = header_length(s, n)
+        + number_length(GICD_CTLR_FIXED + s[ENABLES])
+        + number_length(s[STATUS]);
     let spis = banks_length(s, count) + words_length(&s[ROUTES..ROUTES + spi_count(count)]);
     front + spis + vcpus_length(s, n)
 }

@@ -12,6 +12,8 @@ use model::Errno;
 use model::Refusal;
 use model::layout::AP0R;
 use model::layout::BANK_LENGTH;
+use model::layout::BLOCK_LENGTH;
+use model::layout::BLOCKS;
 use model::layout::BPR0;
 use model::layout::BPR1;
 use model::layout::COUNT;
@@ -19,6 +21,7 @@ use model::layout::CTLR;
 use model::layout::EDGES;
 use model::layout::ENABLES;
 use model::layout::FRAME_STATUS;
+use model::layout::GROUP;
 use model::layout::IGRPEN0;
 use model::layout::LINE;
 use model::layout::PMR;
@@ -26,8 +29,23 @@ use model::layout::PRIORITIES;
 use model::layout::ROUTES;
 use model::layout::STATUS;
 use model::layout::VCPUS;
+use model::values::APR_BITS;
+use model::values::FLAG_BITS;
+use model::values::GICD_CTLR_BITS;
+use model::values::GICD_CTLR_FIXED;
+use model::values::ICC_CTLR_BITS;
+use model::values::ICC_CTLR_FIXED;
+use model::values::LAST_FLAG_BITS;
+use model::values::ONE_BIT;
+use model::values::PMR_BITS;
+use model::values::PPI_BITS;
+use model::values::PRIORITY_BITS;
+use model::values::ROUTE_BITS;
+use model::values::STATUSR_BITS;
 use state::VcpuIndex;
 use state::block_at;
+use state::store_of_interrupts;
+use state::spi_bank_at;
 ghost use mathlib.Core.Path.{_≡_};
 ghost use mathlib.Core.Bool.{cond};
 ghost use Prim.Native.Nat.{_+_, _≤_, _<_};
@@ -48,28 +66,35 @@ pub enum Step {
     Fault(Errno),
 }
 
-// Where `store`, stores a word.
-fn put_word(s: &mut [u32], at: usize, x: u32, store: bool)
-    requires { ⌜ (length (now s) ≡ stateLength) × (at < stateLength) ⌝ }
-    ensures { λ _. ⌜ now (s .exit) ≡ cond store (set (now (s .entry)) at x) (now (s .entry)) ⌝ }
+// A part of the state, which is lent on as `&mut` where a word of it is stored: its start and its length.
+pub struct Part {
+    pub at: usize,
+    pub len: usize,
+}
+
+// Where `store`, stores word `j` of a part.
+fn put_word(s: &mut [u32], part: Part, j: usize, x: u32, store: bool)
+    requires { ⌜ (length (now s) ≡ stateLength) × (part .at + part .len ≤ stateLength) × (j < part .len) ⌝ }
+    ensures { λ _. ⌜ now (s .exit) ≡ cond store (set (now (s .entry)) (part .at + j) x) (now (s .entry)) ⌝ }
 {
     if store {
-        s[at] = x;
+        store_of_interrupts(s, part.at, part.len, j, x);
     }
 }
 
-// The numbers of `m` words from `p` on that are shown as themselves, with no bit outside a mask.
+// The numbers of `m` words of a part, from word `j` on, that are shown as themselves, with no bit outside a mask.
 fn load_words(
     s: &mut [u32],
     bytes: &[u8],
     from: Step,
-    p: usize,
+    part: Part,
+    j: usize,
     m: usize,
     mask: u32,
     store: bool,
 ) -> Step
-    requires { ⌜ (length (now s) ≡ stateLength) × (p + m ≤ stateLength) ⌝ }
-    ensures { λ r. ⌜ Loads (wordSlots p m (Within mask)) (now (bytes .entry)) store from (now (s .entry)) (now (s .exit)) r ⌝ }
+    requires { ⌜ (length (now s) ≡ stateLength) × (part .at + part .len ≤ stateLength) × (j + m ≤ part .len) ⌝ }
+    ensures { λ r. ⌜ Loads (wordSlots (part .at + j) m (Within mask)) (now (bytes .entry)) store from (now (s .entry)) (now (s .exit)) r ⌝ }
 {
     let Step::At(first) = from else {
         return from;
@@ -83,17 +108,25 @@ fn load_words(
         if !is_within(x, mask) {
             return Step::Fault(Errno::Einval);
         }
-        put_word(s, p + i, x, store);
+        put_word(s, part, j + i, x, store);
         place = next;
         i += 1;
     }
     Step::At(place)
 }
 
-// The number of the word at `p`, whatever its kind is.
-fn load_word(s: &mut [u32], bytes: &[u8], from: Step, p: usize, kind: Kind, store: bool) -> Step
-    requires { ⌜ (length (now s) ≡ stateLength) × (p < stateLength) ⌝ }
-    ensures { λ r. ⌜ Loads (wordSlots p 1 kind) (now (bytes .entry)) store from (now (s .entry)) (now (s .exit)) r ⌝ }
+// The number of word `j` of a part, whatever its kind is.
+fn load_word(
+    s: &mut [u32],
+    bytes: &[u8],
+    from: Step,
+    part: Part,
+    j: usize,
+    kind: Kind,
+    store: bool,
+) -> Step
+    requires { ⌜ (length (now s) ≡ stateLength) × (part .at + part .len ≤ stateLength) × (j < part .len) ⌝ }
+    ensures { λ r. ⌜ Loads (wordSlots (part .at + j) 1 kind) (now (bytes .entry)) store from (now (s .entry)) (now (s .exit)) r ⌝ }
 {
     let Step::At(cursor) = from else {
         return from;
@@ -104,7 +137,7 @@ fn load_word(s: &mut [u32], bytes: &[u8], from: Step, p: usize, kind: Kind, stor
     if !is_shown(kind, x) {
         return Step::Fault(Errno::Einval);
     }
-    put_word(s, p, word_shown(kind, x), store);
+    put_word(s, part, j, word_shown(kind, x), store);
     Step::At(next)
 }
 
@@ -134,14 +167,17 @@ fn load_last_bank(s: &mut [u32], bytes: &[u8], from: Step, store: bool) -> Step
     requires { ⌜ length (now s) ≡ stateLength ⌝ }
     ensures { λ r. ⌜ Loads (bankSlots 31) (now (bytes .entry)) store from (now (s .entry)) (now (s .exit)) r ⌝ }
 {
-    let bank = 256 + BANK_LENGTH * 31;
-    let flags = load_words(s, bytes, from, bank, 5, 0x0fff_ffff, store);
-    let priorities = load_words(s, bytes, flags, bank + PRIORITIES, 7, 0xf8f8_f8f8, store);
-    let absent = load_words(s, bytes, priorities, bank + (PRIORITIES + 7), 1, 0, store);
+    let bank = Part {
+        at: spi_bank_at(31),
+        len: BANK_LENGTH,
+    };
+    let flags = load_words(s, bytes, from, bank, GROUP, 5, LAST_FLAG_BITS, store);
+    let priorities = load_words(s, bytes, flags, bank, PRIORITIES, 7, PRIORITY_BITS, store);
+    let absent = load_words(s, bytes, priorities, bank, PRIORITIES + 7, 1, 0, store);
     let all_edges = Kind::Edges(0xaaaa_aaaa);
-    let low = load_word(s, bytes, absent, bank + EDGES, all_edges, store);
+    let low = load_word(s, bytes, absent, bank, EDGES, all_edges, store);
     let last_edges = Kind::Edges(0x00aa_aaaa);
-    load_word(s, bytes, low, bank + (EDGES + 1), last_edges, store)
+    load_word(s, bytes, low, bank, EDGES + 1, last_edges, store)
 }
 
 // The bank of SPI word `w`: flags, priorities, then the edge flags as ICFGR has them.
@@ -152,12 +188,15 @@ fn load_bank(s: &mut [u32], bytes: &[u8], from: Step, w: usize, store: bool) -> 
     if w == 31 {
         return load_last_bank(s, bytes, from, store);
     }
-    let bank = 256 + BANK_LENGTH * w;
-    let flags = load_words(s, bytes, from, bank, 5, 0xffff_ffff, store);
-    let priorities = load_words(s, bytes, flags, bank + PRIORITIES, 8, 0xf8f8_f8f8, store);
+    let bank = Part {
+        at: spi_bank_at(w),
+        len: BANK_LENGTH,
+    };
+    let flags = load_words(s, bytes, from, bank, GROUP, 5, FLAG_BITS, store);
+    let priorities = load_words(s, bytes, flags, bank, PRIORITIES, 8, PRIORITY_BITS, store);
     let edges = Kind::Edges(0xaaaa_aaaa);
-    let low = load_word(s, bytes, priorities, bank + EDGES, edges, store);
-    load_word(s, bytes, low, bank + (EDGES + 1), edges, store)
+    let low = load_word(s, bytes, priorities, bank, EDGES, edges, store);
+    load_word(s, bytes, low, bank, EDGES + 1, edges, store)
 }
 
 // The banks of all SPI words.
@@ -175,17 +214,25 @@ fn load_banks(s: &mut [u32], bytes: &[u8], from: Step, count: usize, store: bool
     step
 }
 
-// The CPU interface of a vCPU whose block starts at `p`: PMR, CTLR, BPR0, BPR1, AP0R, AP1R, IGRPEN0, IGRPEN1.
-fn load_interface(s: &mut [u32], bytes: &[u8], from: Step, p: usize, store: bool) -> Step
-    requires { ⌜ (length (now s) ≡ stateLength) × (p + 27 ≤ stateLength) ⌝ }
-    ensures { λ r. ⌜ Loads (interfaceSlots p) (now (bytes .entry)) store from (now (s .entry)) (now (s .exit)) r ⌝ }
+// The CPU interface of a vCPU's block: PMR, CTLR, BPR0, BPR1, AP0R, AP1R, IGRPEN0, IGRPEN1.
+fn load_interface(s: &mut [u32], bytes: &[u8], from: Step, block: Part, store: bool) -> Step
+    requires { ⌜ (length (now s) ≡ stateLength) × (block .at + block .len ≤ stateLength) × (27 ≤ block .len) ⌝ }
+    ensures { λ r. ⌜ Loads (interfaceSlots (block .at)) (now (bytes .entry)) store from (now (s .entry)) (now (s .exit)) r ⌝ }
 {
-    let pmr = load_words(s, bytes, from, p + PMR, 1, 0xf8, store);
-    let ctlr = load_word(s, bytes, pmr, p + CTLR, Kind::Above(0x400, 2), store);
-    let bpr0 = load_word(s, bytes, ctlr, p + BPR0, Kind::Point(2), store);
-    let bpr1 = load_word(s, bytes, bpr0, p + BPR1, Kind::Point(3), store);
-    let active = load_words(s, bytes, bpr1, p + AP0R, 2, 0xffff_ffff, store);
-    load_words(s, bytes, active, p + IGRPEN0, 2, 1, store)
+    let pmr = load_words(s, bytes, from, block, PMR, 1, PMR_BITS, store);
+    let ctlr = load_word(
+        s,
+        bytes,
+        pmr,
+        block,
+        CTLR,
+        Kind::Above(ICC_CTLR_FIXED, ICC_CTLR_BITS),
+        store,
+    );
+    let bpr0 = load_word(s, bytes, ctlr, block, BPR0, Kind::Point(2), store);
+    let bpr1 = load_word(s, bytes, bpr0, block, BPR1, Kind::Point(3), store);
+    let active = load_words(s, bytes, bpr1, block, AP0R, 2, APR_BITS, store);
+    load_words(s, bytes, active, block, IGRPEN0, 2, ONE_BIT, store)
 }
 
 // The block of vCPU `v`: STATUSR, its bank without the edge flags, its CPU interface.
@@ -193,11 +240,14 @@ fn load_vcpu(s: &mut [u32], bytes: &[u8], from: Step, v: VcpuIndex, store: bool)
     requires { ⌜ (length (now s) ≡ stateLength) × (v .0 < mostVcpus) ⌝ }
     ensures { λ r. ⌜ Loads (vcpuSlots (v .0)) (now (bytes .entry)) store from (now (s .entry)) (now (s .exit)) r ⌝ }
 {
-    let block = block_at(v);
-    let status = load_words(s, bytes, from, block + FRAME_STATUS, 1, 15, store);
-    let flags = load_words(s, bytes, status, block, 4, 0xffff_ffff, store);
-    let lines = load_words(s, bytes, flags, block + LINE, 1, 0xffff_0000, store);
-    let priorities = load_words(s, bytes, lines, block + PRIORITIES, 8, 0xf8f8_f8f8, store);
+    let block = Part {
+        at: block_at(v),
+        len: BLOCK_LENGTH,
+    };
+    let status = load_words(s, bytes, from, block, FRAME_STATUS, 1, STATUSR_BITS, store);
+    let flags = load_words(s, bytes, status, block, GROUP, 4, FLAG_BITS, store);
+    let lines = load_words(s, bytes, flags, block, LINE, 1, PPI_BITS, store);
+    let priorities = load_words(s, bytes, lines, block, PRIORITIES, 8, PRIORITY_BITS, store);
     load_interface(s, bytes, priorities, block, store)
 }
 
@@ -238,12 +288,25 @@ pub fn load_record(s: &mut [u32], bytes: &[u8], store: bool) -> Refusal
 {
     let count = s[COUNT] as usize;
     let n = s[VCPUS] as usize;
+    let device = Part { at: 0, len: BLOCKS };
     let header = load_header(s, bytes, n);
-    let control = load_word(s, bytes, header, ENABLES, Kind::Above(0x50, 3), store);
-    let status = load_words(s, bytes, control, STATUS, 1, 15, store);
+    let control = load_word(
+        s,
+        bytes,
+        header,
+        device,
+        ENABLES,
+        Kind::Above(GICD_CTLR_FIXED, GICD_CTLR_BITS),
+        store,
+    );
+    let status = load_words(s, bytes, control, device, STATUS, 1, STATUSR_BITS, store);
     let banks = load_banks(s, bytes, status, count, store);
     let spis = spi_count(count);
-    let routes = load_words(s, bytes, banks, ROUTES, spis, 0x00ff_ffff, store);
+    let spi_routes = Part {
+        at: ROUTES,
+        len: spis,
+    };
+    let routes = load_words(s, bytes, banks, spi_routes, 0, spis, ROUTE_BITS, store);
     let blocks = load_vcpus(s, bytes, routes, n, store);
     end_record(bytes, blocks)
 }

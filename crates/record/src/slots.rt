@@ -1,6 +1,8 @@
 // The values of a record by their places in the state.
 use model::layout::COUNT;
 use model::layout::VCPUS;
+use model::values::BPR_BITS;
+use model::values::RECORD_VERSION;
 use state::VcpuIndex;
 use state::affinity_of;
 use state::ids_below;
@@ -13,9 +15,6 @@ ghost use Rattle.model.specs.Layout.{stateLength, mostVcpus};
 ghost use Rattle.model.specs.Sound.{fits};
 ghost use Rattle.model.specs.Record.{spis};
 ghost use Rattle.record.specs.Slots.{hidden, shows, headerAt, Sized, slots};
-
-// The version of the record.
-const VERSION: u32 = 1;
 
 // How a word of the state is shown in the record, and which words may stand there.
 pub enum Kind {
@@ -57,7 +56,7 @@ pub fn is_shown(kind: Kind, x: u32) -> bool
             is_within(x - base, mask)
         }
         Kind::Edges(mask) => is_within(x, mask),
-        Kind::Point(least) => (least <= x) & (x <= 7),
+        Kind::Point(least) => (least <= x) & (x <= BPR_BITS),
     }
 }
 
@@ -98,7 +97,7 @@ pub fn header_at(s: &[u32], k: usize) -> u32
     ensures { λ r. ⌜ r ≡ headerAt (now (s .entry)) k ⌝ }
 {
     match k {
-        0 => VERSION,
+        0 => RECORD_VERSION,
         1 => s[COUNT],
         2 => s[VCPUS],
         _ => affinity_of(s, VcpuIndex(k - 3)).0,

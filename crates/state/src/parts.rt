@@ -68,7 +68,7 @@ pub fn put_in_block(s: &mut [u32], v: VcpuIndex, j: usize, x: u32)
 }
 
 // Every store that concerns an interrupt, into a bank or a route, is made here.
-fn store_of_interrupts(s: &mut [u32], at: usize, n: usize, j: usize, x: u32)
+pub fn store_of_interrupts(s: &mut [u32], at: usize, n: usize, j: usize, x: u32)
     requires { ⌜ (at + n ≤ length (now s)) × (j < n) ⌝ }
     ensures { λ _. ⌜ now (s .exit) ≡ set (now (s .entry)) (at + j) x ⌝ }
 {

@@ -7,6 +7,5 @@ use Rattle.record.proofs.load.load_bank.Tie as tie
 pub load-bank-spec : {M : Type 1} → statement M
 load-bank-spec =
     tie.close
-    (tie.spec (λ c κs. search needs) (λ c. search needs) (λ c. search last-is) (λ c. search needs) (λ c. search needs) (λ c κs. search needs)
-    (λ c. search needs) (λ c κs. search needs) (λ c. search needs) (λ c κs. search needs) (λ c. search needs) (λ c. search needs)
-    (λ c κs. search needs) (λ c. search needs) (λ c. search bank-loaded))
+    (tie.spec (λ c κs. search needs) (λ c. search needs) (λ c. search last-is) (λ c κs. search needs) (λ c κs. search needs) (λ c κs. search needs)
+    (λ c κs. search needs) (λ c. search needs) (λ c κs. search needs) (λ c. search needs) (λ c. search bank-loaded))

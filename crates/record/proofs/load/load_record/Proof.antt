@@ -10,7 +10,7 @@ load-words-requires : tie.Need-load-words-requires
 load-words-requires c κs =
     let x = c .before .before .before in
     let p = x .before .before .before .before .before .before .before .before in
-    (loads-size (x .load-word .ensures) (fresh-length _ (p .pre .0)), omega arith)
+    (loads-size (x .load-word .ensures) (fresh-length _ (p .pre .0)), omega arith, omega arith)
 
 load-banks-requires : tie.Need-load-banks-requires
 load-banks-requires c κs =
@@ -31,7 +31,7 @@ load-words-requires-2 c κs =
     let y = b .before .before .before .before in
     let x = y .before .before .before .before in
     let p = x .before .before .before .before .before .before .before .before in
-    (loads-size (b .load-banks .ensures) (loads-size (y .load-words .ensures) (loads-size (x .load-word .ensures) (fresh-length _ (p .pre .0)))), routes-inside _ _ (m .spi-count .ensures))
+    (loads-size (b .load-banks .ensures) (loads-size (y .load-words .ensures) (loads-size (x .load-word .ensures) (fresh-length _ (p .pre .0)))), routes-inside _ _ (m .spi-count .ensures), omega arith)
 
 load-vcpus-requires : tie.Need-load-vcpus-requires
 load-vcpus-requires c κs =
@@ -58,5 +58,5 @@ pub load-record-spec : {M : Type 1} → statement M
 load-record-spec =
     tie.close
     (tie.spec (λ c. search fresh-numbers) (λ c. search fresh-numbers) (λ c. search fresh-numbers) (λ c. search fresh-numbers)
-    (λ c κs. (search fresh-length, search fresh-few)) (λ c κs. (search fresh-length, search needs)) load-words-requires load-banks-requires
+    (λ c κs. (search fresh-length, search fresh-few)) (λ c κs. (search fresh-length, search needs, search needs)) load-words-requires load-banks-requires
     spi-count-requires load-words-requires-2 load-vcpus-requires (λ c κs. search needs) (λ c. search needs) returns)

@@ -9,14 +9,14 @@ use Rattle.record.proofs.load.load_words.Statement.{statement}
 use Rattle.record.proofs.load.load_words.Tie as tie
 
 abbrev Inv-loop : tie.InvT-loop
-Inv-loop s₀ bytes p m mask store cursor₀ i₀ s cursor i = Loading (wordSlots p m (Within mask)) bytes store (At cursor₀) s₀ (wordSlots (p + i) (m - i) (Within mask)) (At cursor) s
+Inv-loop s₀ bytes part j m mask store cursor₀ i₀ s cursor i = Loading (wordSlots (part .at + j) m (Within mask)) bytes store (At cursor₀) s₀ (wordSlots (part .at + j + i) (m - i) (Within mask)) (At cursor) s
 
 abbrev μ-loop : tie.MeasureT-loop
-μ-loop s₀ bytes p m mask store cursor₀ i₀ s cursor i = m - i
+μ-loop s₀ bytes part j m mask store cursor₀ i₀ s cursor i = m - i
 
 pub load-words-spec : {M : Type 1} → statement M
 load-words-spec =
     tie.close
     (tie.spec Inv-loop μ-loop (λ c. search needs) (λ c. search needs) (λ c. search loads-fault) (λ c. search run-first) (λ c κs. search needs)
     (λ c. search needs) (λ c. search needs) (λ c. search needs) (λ c. search run-broken) (λ c κs. search needs) (λ c. search needs) (λ c. search run-unread)
-    (λ c. search needs) (λ c κs. (search run-size, search needs)) (λ c. search needs) (λ c. search needs) (λ c. search run-next) (λ c. search needs) (λ c. search run-end))
+    (λ c. search needs) (λ c κs. (search run-size, search needs, search needs)) (λ c. search needs) (λ c. search needs) (λ c. search run-next) (λ c. search needs) (λ c. search run-end))

@@ -22,8 +22,8 @@ returns-3 c =
     let i = a .before in
     (fill-short _ _ _ (i .is-sound .ensures) (a .if1 .left) _ (o .is-stopped .ensures) (b .if2 .left) _ (r .has-room .ensures) (c .if3 .taken), omega arith)
 
-write-record-requires : tie.Need-write-record-requires
-write-record-requires c κs =
+save-record-requires : tie.Need-save-record-requires
+save-record-requires c κs =
     let d = c .before in
     let r = d .before in
     let b = r .before in
@@ -41,10 +41,10 @@ returns-4 c =
     let o = b .before in
     let a = o .before in
     let i = a .before in
-    (fill-done _ _ _ (i .is-sound .ensures) (a .if1 .left) _ (o .is-stopped .ensures) (b .if2 .left) _ (r .has-room .ensures) (d .if3 .left) _ _ (w .write-record .ensures .0), fill-within _ _ _ (r .has-room .ensures) (d .if3 .left) _ _ (w .write-record .ensures .0))
+    (fill-done _ _ _ (i .is-sound .ensures) (a .if1 .left) _ (o .is-stopped .ensures) (b .if2 .left) _ (r .has-room .ensures) (d .if3 .left) _ _ (w .save-record .ensures .0), fill-within _ _ _ (r .has-room .ensures) (d .if3 .left) _ _ (w .save-record .ensures .0))
 
 pub fill-spec : {M : Type 1} → statement M
 fill-spec =
     tie.close
     (tie.spec (λ c κs. search needs) (λ c. (search fill-unsound, omega arith)) (λ c κs. search inside) (λ c. (search fill-busy, omega arith))
-    has-room-requires returns-3 write-record-requires (λ c. search needs) (λ c. search needs) returns-4)
+    has-room-requires returns-3 save-record-requires (λ c. search needs) (λ c. search needs) returns-4)

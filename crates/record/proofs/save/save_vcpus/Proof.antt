@@ -1,4 +1,4 @@
--- `record::save::write_vcpus` meets its contract.
+-- `record::save::save_vcpus` meets its contract.
 use Prim.Native.Nat.{_-_}
 use mathlib.Core.List.{[], _∷_}
 use Rattle.model.specs.Words.{each}
@@ -6,8 +6,8 @@ use Rattle.record.specs.Slots.{vcpuSlots, slotBytes}
 use Rattle.record.proofs.Writing.{Writing}
 use Rattle.record.proofs.Filling.{stopped-length, stopped-vcpu, ctlr-small, blocks-first, vcpu-room, block-written, blocks-written}
 use borrow.Author.Needs.{needs}
-use Rattle.record.proofs.save.write_vcpus.Statement.{statement}
-use Rattle.record.proofs.save.write_vcpus.Tie as tie
+use Rattle.record.proofs.save.save_vcpus.Statement.{statement}
+use Rattle.record.proofs.save.save_vcpus.Tie as tie
 
 abbrev Inv-loop : tie.InvT-loop
 Inv-loop buf₀ at s n next₀ v₀ buf next v = Writing buf₀ at (slotBytes s (each vcpuSlots 0 n)) buf next (slotBytes s (each vcpuSlots v (n - v)) ∷ [])
@@ -15,8 +15,8 @@ Inv-loop buf₀ at s n next₀ v₀ buf next v = Writing buf₀ at (slotBytes s 
 abbrev μ-loop : tie.MeasureT-loop
 μ-loop buf₀ at s n next₀ v₀ buf next v = n - v
 
-pub write-vcpus-spec : {M : Type 1} → statement M
-write-vcpus-spec =
+pub save-vcpus-spec : {M : Type 1} → statement M
+save-vcpus-spec =
     tie.close
     (tie.spec Inv-loop μ-loop (λ c. search blocks-first) (λ c κs. (search stopped-length, search stopped-vcpu, search ctlr-small, search vcpu-room)) (λ c. search needs) (λ c. search needs)
     (λ c. search block-written) (λ c. search needs) (λ c. search blocks-written))
