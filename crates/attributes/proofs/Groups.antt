@@ -8,7 +8,7 @@ use lib.IntN.{ℤ}
 use Rattle.model.specs.Sound.{sound}
 use Rattle.model.specs.Refusals.{firstFailing, number}
 use Rattle.model.specs.Attributes.{groupOf}
-use Rattle.model.specs.Calls.{Call, Does, call, getAttribute, setAttribute, lentTo, lentBytes, acceptable, checks, getChecks, setChecks, refusal, settle, value, next}
+use Rattle.model.specs.Calls.{Call, Does, call, getAttribute, setAttribute, lentTo, getChecks, setChecks, refusal, settle, value, next, describe}
 use Rattle.model.specs.declared.Errno.{Errno}
 use Rattle.model.specs.declared.Errno.the-variants.{Efault, Enxio}
 use Rattle.model.specs.declared.Refusal.{Refusal}
@@ -58,12 +58,12 @@ module _ (d k : AttributeGroup) (g n a : ℕ) (s : List ℕ) (r : ℤ) (t b : Li
   same = sym e ∙ h ∙ m
 
   pub get-alike : Does (call (getAttribute n a) s) r t b → Does (call (getAttribute g a) s) r t b
-  unfolding checks value next lentTo
+  unfolding describe
   get-alike c =
       rw (alike (getAttribute g a) (getAttribute n a) s (rw (refusal-list (getAttribute g a) s, refusal-list (getAttribute n a) s, same)) (rw same) refl refl) c
 
   pub set-alike : (x : ℕ) → Does (call (setAttribute n a x) s) r t b → Does (call (setAttribute g a x) s) r t b
-  unfolding checks value next lentTo
+  unfolding describe
   set-alike x c =
       rw (alike (setAttribute g a x) (setAttribute n a x) s (rw (refusal-list (setAttribute g a x) s, refusal-list (setAttribute n a x) s, same)) refl (rw same) refl) c
 
@@ -71,11 +71,11 @@ module _ (d k : AttributeGroup) (g n a : ℕ) (s : List ℕ) (r : ℤ) (t b : Li
 
 module _ (d : AttributeGroup) (g a : ℕ) (s : List ℕ) (n : Errno) (e : d ≡ groupOf g) (h : d ≡ Unknown) (f : Refuse n ≡ firstFailing ((sound s, Efault) ∷ (false, Enxio) ∷ [])) where
   pub get-unknown : Does (call (getAttribute g a) s) (number (Refused n)) s []
-  unfolding lentTo lentBytes acceptable checks getChecks
+  unfolding describe getChecks
   get-unknown = refuses (getAttribute g a) s [] n (rw (refusal-list (getAttribute g a) s, ← e, h) f) refl
 
   pub set-unknown : (x : ℕ) → Does (call (setAttribute g a x) s) (number (Refused n)) s []
-  unfolding lentTo lentBytes acceptable checks setChecks
+  unfolding describe setChecks
   set-unknown x = refuses (setAttribute g a x) s [] n (rw (refusal-list (setAttribute g a x) s, ← e, h) f) refl
 
 pub ruleset grouped = (get-alike, set-alike, get-unknown, set-unknown, register-number, count-number, initialise-number)

@@ -7,7 +7,7 @@ use native.Mathlib.Omega.{arith}
 use Rattle.model.specs.Sound.{sound, stopped}
 use Rattle.model.specs.Refusals.{Check, firstFailing}
 use Rattle.model.specs.Attributes.{groupOf, low, numberOk, affinityKnown, item, known, takes, itemRead, itemWrite}
-use Rattle.model.specs.Calls.{getAttribute, setAttribute, lentTo, acceptable, registerChecks, getChecks, setChecks, checks, refusal, getValue, value, setState, next}
+use Rattle.model.specs.Calls.{getAttribute, setAttribute, registerChecks, getChecks, setChecks, refusal, getValue, value, setState, next, describe}
 use Rattle.model.specs.declared.Errno.{Errno}
 use Rattle.model.specs.declared.Errno.the-variants.{Efault, Einval}
 use Rattle.model.specs.declared.Refusal.{Refusal}
@@ -40,11 +40,11 @@ module _ (q : RegisterGroup) (a : ℕ) (s : List ℕ) where
   tested = (sound s, Efault) ∷ registerChecks q a s
 
   get-list : refusal (getAttribute (groupNumber q) a) s ≡ firstFailing tested
-  unfolding lentTo acceptable checks getChecks
+  unfolding describe getChecks
   get-list = rw (refusal-list (getAttribute (groupNumber q) a) s, group-of q)
 
   set-list : (x : ℕ) → refusal (setAttribute (groupNumber q) a x) s ≡ firstFailing (tested ++ ((takes (item q a s) x, Einval) ∷ []))
-  unfolding lentTo acceptable checks setChecks
+  unfolding describe setChecks
   set-list x = rw (refusal-list (setAttribute (groupNumber q) a x) s, group-of q)
 
   -- ---- what item_named answers
@@ -115,7 +115,7 @@ module _ (q : RegisterGroup) (a : ℕ) (s : List ℕ) where
       get-granted = sym (get-list ∙ opened .0)
 
       pub get-value : (w : ℕ) → w ≡ itemRead s i → w ≡ value (getAttribute (groupNumber q) a) s
-      unfolding value getValue
+      unfolding describe getValue
       get-value w p = rw (group-of q, opened .1) p
 
       module _ (v : ℕ) (t : Bool) (g : t ≡ takes i v) where
@@ -131,7 +131,7 @@ module _ (q : RegisterGroup) (a : ℕ) (s : List ℕ) where
         set-granted n = sym (last ∙ rw (told-yes (takes i v) t g n))
 
       pub set-next : (v : ℕ) (t : List ℕ) → t ≡ itemWrite s i v → t ≡ next (setAttribute (groupNumber q) a v) s
-      unfolding next setState
+      unfolding describe setState
       set-next v t p = rw (group-of q, opened .1) p
 
 -- `search naming` finds which refusal item_named has come to, `search named` what a get or a set does by it

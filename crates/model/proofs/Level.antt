@@ -11,7 +11,7 @@ use Rattle.model.specs.Words.{bit}
 use Rattle.model.specs.Layout.{word, isInitialised, pmrAt, aprAt, running}
 use Rattle.model.specs.Interface.{system, readGroup, groupIn, best, nothing, found, rankPriority, groupPriority, runningLevel, ofGroup, gives, offered, levelOf, levelClear, systemReadClear}
 use Rattle.model.specs.Refusals.{Check, firstFailing, errno}
-use Rattle.model.specs.Calls.{readSystem, lentTo, acceptable, guestChecks, readChecks, checks, isVcpu, refusal, call, describe, inPhase, readPhase}
+use Rattle.model.specs.Calls.{readSystem, acceptable, guestChecks, readChecks, checks, isVcpu, refusal, call, describe, inPhase, readPhase}
 use Rattle.model.specs.declared.Refusal.{Refusal}
 use Rattle.model.specs.declared.Refusal.the-variants.{None, Refuse}
 use Rattle.model.specs.declared.Errno.{Errno}

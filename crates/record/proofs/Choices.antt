@@ -2,14 +2,12 @@
 use Prim.Native.Nat.{ℕ, _+_, _*_, _-_, _/_, _^_, _≤_, _<_}
 use mathlib.Core.Path.{_≡_}
 use mathlib.Core.Bool.{Bool, true, false}
-use borrow.Author.Tests.{eq-eqb, ne-eqb, lt-ltb, le-ltb, le-leb, lt-leb, eqb-true, leb-true}
-use lib.Bits.{bitAnd}
-use lib.Dec.{eqb, leb}
+use borrow.Author.Tests.{eq-eqb, ne-eqb, lt-ltb, le-ltb, le-leb, lt-leb, leb-true}
+use lib.Dec.{leb}
 use lib.ListN.{length}
 use Rattle.model.specs.Sound.{fits}
 use Rattle.model.specs.Record.{spis}
-use Rattle.model.proofs.Tests.{both, same-test}
-use Rattle.words.proofs.Masks.{clear-fits, fits-clear}
+use Rattle.model.proofs.Tests.{both}
 use Rattle.record.specs.Slots.{shows, slots}
 use Rattle.record.specs.declared.slots.Kind.{Kind}
 use Rattle.record.specs.declared.slots.Kind.the-variants.{Above}
@@ -19,9 +17,6 @@ use Rattle.record.proofs.Order.{length-slots}
 pub ruleset choices = (eq-eqb, ne-eqb, lt-ltb, le-ltb)
 
 -- ---- words as they are shown
-
-pub within-fits : (x m : ℕ) → x < 2 ^ 32 → m < 2 ^ 32 → eqb (bitAnd x (0xffffffff - m)) 0 ≡ fits x m
-within-fits x m h l = same-test _ _ (λ e. clear-fits x m h l (eqb-true _ _ e)) (λ e. eq-eqb _ _ (fits-clear x m l e))
 
 module _ (k : Kind) (x b m : ℕ) (e : k ≡ Above b m) where
   pub above-base : shows k x ≡ true → b ≤ x

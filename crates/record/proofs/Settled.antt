@@ -12,7 +12,7 @@ use lib.Seq.{length-sets}
 use Rattle.model.specs.Sound.{sound, stopped}
 use Rattle.model.specs.Refusals.{firstFailing, number}
 use Rattle.model.specs.Record.{recordOf, saved, restored, faults}
-use Rattle.model.specs.Calls.{Does, call, save, restore, lentTo, acceptable, checks, refusal, lentBytes, filled, value, next}
+use Rattle.model.specs.Calls.{Does, call, save, restore, refusal, describe}
 use Rattle.model.specs.Demands.{Stopped, Fresh}
 use Rattle.model.specs.declared.Errno.{Errno}
 use Rattle.model.specs.declared.Errno.the-variants.{Efault, Ebusy, Enospc}
@@ -39,27 +39,27 @@ fill-within s b r hr lr n t w = rw (w .bytes, length-sets b 0 (recordOf s)) (ome
 
 module _ (s b : List ℕ) (a : Bool) (ha : a ≡ sound s) where
   pub fill-unsound : not a ≡ true → Does (call (save b) s) (number (Refused Efault)) s b
-  unfolding lentTo lentBytes acceptable checks firstFailing
+  unfolding describe firstFailing
   fill-unsound la = refuses (save b) s b Efault (sym (refusal-list (save b) s ∙ rw (told-no (sound s) a ha la))) refl
 
   module _ (la : not a ≡ false) (c : Bool) (hc : c ≡ stopped s) where
     pub fill-busy : not c ≡ true → Does (call (save b) s) (number (Refused Ebusy)) s b
-    unfolding lentTo lentBytes acceptable checks firstFailing
+    unfolding describe firstFailing
     fill-busy lc = refuses (save b) s b Ebusy (sym (refusal-list (save b) s ∙ rw (told-yes (sound s) a ha la, told-no (stopped s) c hc lc))) refl
 
     module _ (lc : not c ≡ false) where
       module _ (r : Bool) (hr : r ≡ leb (length (recordOf s)) (length b)) where
         -- the last test decides
         room-decides : (t : Bool) → leb (length (recordOf s)) (length b) ≡ t → refusal (save b) s ≡ firstFailing ((t, Enospc) ∷ [])
-        unfolding lentTo acceptable checks firstFailing
+        unfolding describe firstFailing
         room-decides t h = refusal-list (save b) s ∙ rw (told-yes (sound s) a ha la, told-yes (stopped s) c hc lc, h)
 
         pub fill-short : not r ≡ true → Does (call (save b) s) (number (Refused Enospc)) s b
-        unfolding lentTo lentBytes firstFailing
+        unfolding describe firstFailing
         fill-short lr = refuses (save b) s b Enospc (sym (room-decides false (told-no (leb (length (recordOf s)) (length b)) r hr lr))) refl
 
         pub fill-done : not r ≡ false → (n : ℕ) (t : List ℕ) → Wrote b 0 (recordOf s) n t → Does (call (save b) s) (number (Value n)) s t
-        unfolding lentTo firstFailing value next filled saved
+        unfolding describe firstFailing saved
         fill-done lr n t w =
             grants (save b) s n s t (sym (room-decides true (told-yes (leb (length (recordOf s)) (length b)) r hr lr))) (w .place ∙ zero-add _) refl
             (w .bytes ∙ sets-front b (recordOf s) (fill-room s (length b) r hr lr))
@@ -71,11 +71,11 @@ no-store = record { so = λ e. let z : _≡_ {A = ℕ} 0 1 = cc in absurd (omega
 
 module _ (s bytes : List ℕ) (r : Refusal) (h : r ≡ firstFailing ((sound s, Efault) ∷ deviceChecks s)) where
   tests-are : refusal (restore bytes) s ≡ firstFailing (((sound s, Efault) ∷ deviceChecks s) ++ faults (restored s bytes))
-  unfolding lentTo acceptable checks deviceChecks
+  unfolding describe deviceChecks
   tests-are = refusal-list (restore bytes) s
 
   pub device-refused : (e : Errno) → r ≡ Refuse e → Does (call (restore bytes) s) (number (Refused e)) s bytes
-  unfolding lentTo lentBytes
+  unfolding describe
   device-refused e q = refuses (restore bytes) s bytes e (sym (tests-are ∙ fails-then ((sound s, Efault) ∷ deviceChecks s) (faults (restored s bytes)) e (sym h ∙ q))) refl
 
   module _ (q : r ≡ None) where
@@ -90,7 +90,7 @@ module _ (s bytes : List ℕ) (r : Refusal) (h : r ≡ firstFailing ((sound s, E
     -- t is what the pass that judges leaves: the device as it was
     module _ (f : Refusal) (t : List ℕ) (g : Passes s bytes false f t) where
       pub record-refused : (e : Errno) → f ≡ Refuse e → Does (call (restore bytes) s) (number (Refused e)) t bytes
-      unfolding lentTo lentBytes
+      unfolding describe
       record-refused e k = rw (g .left) (refuses (restore bytes) s bytes e (sym (record-decides ∙ sym (g .refusal) ∙ k)) refl)
 
       pub again-fresh : Fresh t
@@ -101,5 +101,5 @@ module _ (s bytes : List ℕ) (r : Refusal) (h : r ≡ firstFailing ((sound s, E
         none-faults b = record { so = λ e. rw (g .left) (sym (g .refusal) ∙ k) }
 
         pub restore-done : (r : Refusal) (u : List ℕ) → Passes t bytes true r u → Does (call (restore bytes) s) (number (Value 0)) u bytes
-        unfolding lentTo value next filled
+        unfolding describe
         restore-done r u w = grants (restore bytes) s 0 u bytes (sym (record-decides ∙ sym (g .refusal) ∙ k)) refl (rw (g .left) at (w .left)) refl

@@ -7,12 +7,12 @@ use state::VcpuIndex;
 use state::affinity_of;
 use state::ids_below;
 use words::edges_of;
+use words::is_within;
 ghost use mathlib.Core.Path.{_≡_};
 ghost use mathlib.Core.Bool.{true};
 ghost use Prim.Native.Nat.{_+_, _≤_, _<_};
 ghost use lib.ListN.{length};
 ghost use Rattle.model.specs.Layout.{stateLength, mostVcpus};
-ghost use Rattle.model.specs.Sound.{fits};
 ghost use Rattle.model.specs.Record.{spis};
 ghost use Rattle.record.specs.Slots.{hidden, shows, headerAt, Sized, slots};
 
@@ -35,13 +35,6 @@ pub enum Slot {
 }
 
 // ---- words as they are shown
-
-// No bit of `x` is outside the mask.
-pub fn is_within(x: u32, mask: u32) -> bool
-    ensures { λ r. ⌜ r ≡ fits x mask ⌝ }
-{
-    x & !mask == 0
-}
 
 // Whether a word that may stand there is shown as `x`.
 pub fn is_shown(kind: Kind, x: u32) -> bool

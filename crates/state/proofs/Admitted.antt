@@ -9,10 +9,12 @@ use lib.Dec.{eqb, lit<}
 use lib.ListN.{length}
 use mir.Syntax.{w64}
 use mir.Val.{Fits}
-use Rattle.model.specs.Layout.{stateLength, mostVcpus, vcpus}
-use Rattle.model.specs.Sound.{sound}
+use Rattle.model.specs.Layout.{stateLength, mostVcpus, isInitialised, vcpus}
+use Rattle.model.specs.Sound.{sound, stopped}
 use Rattle.model.specs.Refusals.{Check, firstFailing}
-use Rattle.model.specs.Calls.{Call, aDevice, lentTo, acceptable, vcpuChecks, checks, refusal}
+use Rattle.model.specs.Calls.{Call, acceptable, inPhase, vcpuChecks, checks, refusal}
+use Rattle.model.specs.declared.Phase.{Phase}
+use Rattle.model.specs.declared.Phase.the-variants.{Initialised, Changing, Stopped}
 use Rattle.model.specs.declared.Errno.{Errno}
 use Rattle.model.specs.declared.Errno.the-variants.{Efault}
 use Rattle.model.specs.declared.Refusal.{Refusal}
@@ -53,6 +55,18 @@ gave-eq a b r e h = eq-eqb a b (sym e ∙ h)
 pub gave-ne : (a b r : ℕ) → r ≡ a → ¬ (r ≡ b) → eqb a b ≡ false
 gave-ne a b r e n = ne-eqb a b (λ h. n (e ∙ h))
 
+-- ---- the phase that a call asks for
+
+module _ (s : List ℕ) (p : Phase) where
+  pub phase-initialised : p ≡ Initialised → isInitialised s ≡ inPhase p s
+  phase-initialised e = rw e
+
+  pub phase-changing : p ≡ Changing → isInitialised s ≡ inPhase p s
+  phase-changing e = rw e
+
+  pub phase-stopped : (r : Bool) → p ≡ Stopped → r ≡ stopped s → r ≡ inPhase p s
+  phase-stopped r e h = rw e h
+
 -- ---- the refusal that a branch has come to
 
 pub refuse-first : {cs : List Check} {e : Errno} → Fails cs e → Refuse e ≡ firstFailing cs
@@ -64,8 +78,7 @@ none-first cs h = sym (none-of cs h)
 -- ---- a call by the answer of its refusal's function
 
 module _ (s : List ℕ) (r : Refusal) (cs : List Check) (e : r ≡ firstFailing ((sound s, Efault) ∷ cs)) where
-  pub told : (c : Call) (q : Refusal) → r ≡ q → lentTo c ≡ aDevice → cs ≡ checks c s → q ≡ refusal c s
-  unfolding acceptable
+  pub told : (c : Call) (q : Refusal) → r ≡ q → acceptable c s ≡ sound s → cs ≡ checks c s → q ≡ refusal c s
   told c q h l k = sym h ∙ e ∙ rw (refusal-list c s, l, ← k)
 
   -- where it is none, all tests hold
@@ -86,9 +99,9 @@ module _ (s : List ℕ) (r : Refusal) (cs : List Check) (e : r ≡ firstFailing 
   admitted-inside t i n q l = omega (arith, admitted-size t n q)
 
 -- a vCPU that is there has its block
-pub vcpu-inside : (s : List ℕ) (r : Refusal) (v : ℕ) → r ≡ firstFailing ((sound s, Efault) ∷ vcpuChecks v s) → r ≡ None → v < mostVcpus
-vcpu-inside s r v e n =
-    let p = admitted s r (vcpuChecks v s) e n in
+pub vcpu-inside : (s : List ℕ) (r : Refusal) (p : Phase) (v : ℕ) → r ≡ firstFailing ((sound s, Efault) ∷ vcpuChecks p v s) → r ≡ None → v < mostVcpus
+vcpu-inside s r p v e n =
+    let p = admitted s r (vcpuChecks p v s) e n in
     omega (arith, ltb-true v (vcpus s) (p .1 .1 .0), sound-vcpus s (p .0))
 
 -- `search inside` finds what the test for soundness says, `search refusing` which refusal a branch has come to, `search answering` what a call does by it

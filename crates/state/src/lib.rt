@@ -26,6 +26,7 @@ pub use parts::put_in_block;
 pub use parts::put_route;
 pub use parts::spi_bank_at;
 pub use parts::store_of_interrupts;
+pub use refusals::in_phase;
 pub use refusals::vcpu_refusal;
 pub use soundness::is_fresh;
 pub use soundness::is_sound;

@@ -3,10 +3,12 @@ use Prim.Native.Nat.{ℕ, _-_, _^_, _<_}
 use mathlib.Core.Path.{_≡_, refl, sym, ap, ap₂, _∙_}
 use mathlib.Core.Bool.{Bool, true, false, not, _&&_, _||_, or-false}
 use native.Mathlib.Omega.{arith}
-use borrow.Author.Tests.{not-false}
+use borrow.Author.Tests.{not-false, eqb-true, eq-eqb}
+use lib.Dec.{eqb}
 use lib.Bits.{bitAnd, bitOr, or-add-and, and-le-l, and-le-r, or-zero-l, or-lt}
 use Rattle.model.specs.Words.{bit, gather}
 use Rattle.model.specs.Sound.{fits}
+use Rattle.model.proofs.Tests.{same-test}
 use Rattle.model.proofs.Bits.{word-is}
 use Rattle.model.proofs.Within.{bit-none, fits-lt, fits-bit, bits-fit}
 use Rattle.words.proofs.Operators.{bit-and, bit-or, bit-not}
@@ -58,3 +60,6 @@ and-over-or a b m h =
 -- 0 has none
 pub and-none : (m : ℕ) → bitAnd 0 m ≡ 0
 and-none m = omega (arith, and-le-l 0 m)
+
+pub within-fits : (x m : ℕ) → x < 2 ^ 32 → m < 2 ^ 32 → eqb (bitAnd x (0xffffffff - m)) 0 ≡ fits x m
+within-fits x m h l = same-test _ _ (λ e. clear-fits x m h l (eqb-true _ _ e)) (λ e. eq-eqb _ _ (fits-clear x m l e))

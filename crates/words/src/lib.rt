@@ -8,7 +8,8 @@ ghost use mathlib.Core.Path.{_≡_};
 ghost use mathlib.Core.Bool.{_||_};
 ghost use Prim.Native.Nat.{_*_, _/_, _^_, _<_, _≤_};
 ghost use lib.ListN.{length};
-ghost use Rattle.model.specs.Words.{bit, withBit, spread, lowest};
+ghost use Rattle.model.specs.Words.{bit, withBit, spread, lowest, masked};
+ghost use Rattle.model.specs.Sound.{fits};
 ghost use Rattle.model.specs.declared.Rule.the-variants.{Replaces, Sets, Clears};
 ghost use Rattle.words.specs.Words.{under, priorityUnder, byteOf, byteShifted, byteMask, collect, pendingWord, pendingIn, rest};
 
@@ -66,6 +67,22 @@ pub fn priority_under(w: u32, x: u32, m: u32) -> u32
     ensures { λ r. ⌜ r ≡ priorityUnder w x m ⌝ }
 {
     (w & !m) | (PRIORITY_BITS & x & m)
+}
+
+// ---- the bits of a mask
+
+// The bits of `x` that the mask has.
+pub fn bits_under(mask: u32, x: u32) -> u32
+    ensures { λ r. ⌜ r ≡ masked mask x ⌝ }
+{
+    mask & x
+}
+
+// No bit of `x` is outside the mask.
+pub fn is_within(x: u32, mask: u32) -> bool
+    ensures { λ r. ⌜ r ≡ fits x mask ⌝ }
+{
+    x & !mask == 0
 }
 
 // ---- bytes

@@ -1,7 +1,7 @@
 -- `access::read_distributor` meets its contract.
 use lib.Dec.{lit<}
 use Rattle.model.specs.Registers.{seenBy}
-use Rattle.model.specs.Calls.{lentTo, lentBytes, filled, checks, value, next}
+use Rattle.model.specs.Calls.{describe}
 use Rattle.state.proofs.Admitted.{answering, admitted-sound}
 use borrow.Author.Needs.{needs}
 use Rattle.access.proofs.read_distributor.Statement.{statement}
@@ -10,5 +10,5 @@ use Rattle.access.proofs.read_distributor.Tie as tie
 pub read-distributor-spec : {M : Type 1} → statement M
 read-distributor-spec =
     tie.close
-    (tie.spec (λ c κs. search needs) (λ c. search needs) (λ c. unfold lentTo lentBytes checks in (search answering)) (λ c. search needs)
-    (λ c κs. unfold seenBy in (search (admitted-sound, lit<))) (λ c. unfold lentTo filled checks value next in (search answering)))
+    (tie.spec (λ c κs. search needs) (λ c. search needs) (λ c. unfold describe in (search answering)) (λ c. search needs)
+    (λ c κs. unfold seenBy in (search (admitted-sound, lit<))) (λ c. unfold describe in (search answering)))

@@ -1,5 +1,5 @@
 -- `attributes::set_register` meets its contract.
-use Rattle.model.specs.Calls.{lentTo, lentBytes, filled, value}
+use Rattle.model.specs.Calls.{describe}
 use Rattle.model.proofs.Refused.{told-yes}
 use Rattle.attributes.proofs.Naming.{named, named-within}
 use borrow.Author.Needs.{needs}
@@ -10,6 +10,6 @@ pub set-register-spec : {M : Type 1} → statement M
 set-register-spec =
     tie.close
     (tie.spec (λ c κs. search needs) (λ c. search needs) (λ c. search needs) (λ c κs. search needs) (λ c. search needs)
-    (λ c. unfold lentTo lentBytes filled value in (search named)) (λ c κs. (search named-within, search told-yes)) (λ c. search needs)
-    (λ c. unfold lentTo lentBytes filled value in (search named)) (λ c. search needs)
-    (λ c. unfold lentTo lentBytes filled value in (search named)))
+    (λ c. unfold describe in (search named)) (λ c κs. (search named-within, search told-yes)) (λ c. search needs)
+    (λ c. unfold describe in (search named)) (λ c. search needs)
+    (λ c. unfold describe in (search named)))

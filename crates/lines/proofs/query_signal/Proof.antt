@@ -1,5 +1,5 @@
 -- `lines::query_signal` meets its contract.
-use Rattle.model.specs.Calls.{lentTo, lentBytes, filled, checks, value, next}
+use Rattle.model.specs.Calls.{describe}
 use Rattle.state.proofs.Admitted.{answering}
 use Rattle.lines.proofs.Changes.{vcpu-usable}
 use borrow.Author.Needs.{needs}
@@ -9,5 +9,5 @@ use Rattle.lines.proofs.query_signal.Tie as tie
 pub query-signal-spec : {M : Type 1} → statement M
 query-signal-spec =
     tie.close
-    (tie.spec (λ c κs. search needs) (λ c. search needs) (λ c. unfold lentTo lentBytes checks in (search answering))
-    (λ c. search needs) (λ c κs. search vcpu-usable) (λ c. unfold lentTo filled checks value next in (search answering)))
+    (tie.spec (λ c κs. search needs) (λ c. search needs) (λ c. unfold describe in (search answering))
+    (λ c. search needs) (λ c κs. search vcpu-usable) (λ c. unfold describe in (search answering)))

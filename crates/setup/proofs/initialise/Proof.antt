@@ -1,6 +1,6 @@
 -- `setup::initialise` meets its contract.
 use Rattle.model.specs.Attributes.{groupOf}
-use Rattle.model.specs.Calls.{lentTo, lentBytes, checks, setChecks, filled, value, next, setState}
+use Rattle.model.specs.Calls.{setChecks, setState, describe}
 use Rattle.state.proofs.Admitted.{answering, admitted-size}
 use borrow.Author.Needs.{needs}
 use Rattle.setup.proofs.initialise.Statement.{statement}
@@ -13,5 +13,5 @@ pub initialise-spec : {M : Type 1} → statement M
 initialise-spec =
     tie.close
     (tie.spec (λ c κs. search needs) (λ c. search needs) (λ c. search needs)
-    (λ c. unfold lentTo lentBytes checks setChecks groupOf in (search answering)) (λ c. search needs) write-initialised-requires
-    (λ c. search needs) (λ c. unfold lentTo checks setChecks filled value next setState groupOf in (search answering)))
+    (λ c. unfold describe setChecks groupOf in (search answering)) (λ c. search needs) write-initialised-requires
+    (λ c. search needs) (λ c. unfold describe setChecks setState groupOf in (search answering)))

@@ -4,7 +4,7 @@ use mathlib.Core.Path.{_≡_, ap, _∙_}
 use mathlib.Core.List.{List}
 use Prim.Native.Nat.{ℕ}
 use lib.ListN.{length, replicate}
-use Rattle.model.specs.Calls.{lentTo, acceptable, checks, value, next, made, lentBytes, filled}
+use Rattle.model.specs.Calls.{made, describe}
 use Rattle.model.proofs.Refused.{refuses, fault-is, none-is, grants}
 use borrow.Author.Needs.{needs}
 use Rattle.setup.proofs.make_device.Statement.{statement}
@@ -17,5 +17,5 @@ all-zero s t l e = e ∙ ap (λ (n : ℕ). replicate n 0) l
 pub make-device-spec : {M : Type 1} → statement M
 make-device-spec =
     tie.close
-    (tie.spec (λ c. unfold lentTo acceptable lentBytes in (search (refuses, fault-is, ne-eqb))) (λ c κs. search needs) (λ c. search needs)
-    (λ c. unfold lentTo acceptable checks value next made filled in (search (grants, none-is, eq-eqb, all-zero))))
+    (tie.spec (λ c. unfold describe in (search (refuses, fault-is, ne-eqb))) (λ c κs. search needs) (λ c. search needs)
+    (λ c. unfold describe made in (search (grants, none-is, eq-eqb, all-zero))))

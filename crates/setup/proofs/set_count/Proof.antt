@@ -1,6 +1,6 @@
 -- `setup::set_count` meets its contract.
 use Rattle.model.specs.Attributes.{groupOf}
-use Rattle.model.specs.Calls.{lentTo, lentBytes, checks, setChecks, filled, value, next, setState}
+use Rattle.model.specs.Calls.{setChecks, setState, describe}
 use lib.Dec.{lit<}
 use Rattle.state.proofs.Admitted.{answering, admitted-inside}
 use Rattle.setup.proofs.Admitted.{count-fits}
@@ -18,5 +18,5 @@ pub set-count-spec : {M : Type 1} → statement M
 set-count-spec =
     tie.close
     (tie.spec (λ c κs. search needs) (λ c. search needs) (λ c. search needs)
-    (λ c. unfold lentTo lentBytes checks setChecks groupOf in (search answering)) (λ c. search needs) cast-s slice-write-s
-    (λ c. search needs) (λ c. unfold lentTo checks setChecks filled value next setState groupOf in (search answering)))
+    (λ c. unfold describe setChecks groupOf in (search answering)) (λ c. search needs) cast-s slice-write-s
+    (λ c. search needs) (λ c. unfold describe setChecks setState groupOf in (search answering)))
