@@ -1,6 +1,7 @@
 // The calls that set a device up: make, add vCPU, attribute groups 3 and 4, running flag. Each has its refusals in document 01's order, EFAULT first, then its writer.
 use model::Answer;
 use model::Errno;
+use model::Phase;
 use model::Refusal;
 use model::layout::AFFINITY;
 use model::layout::BLOCK_LENGTH;
@@ -31,7 +32,8 @@ ghost use mathlib.Core.Bool.{cond, not, _&&_, _||_};
 ghost use Prim.Native.Nat.{_<_};
 ghost use lib.Dec.{eqb, ltb};
 ghost use lib.ListN.{length, replicate, set};
-ghost use Rattle.model.specs.Layout.{stateLength, mostVcpus, count, vcpus, isInitialised};
+ghost use Rattle.model.specs.Values.{edgeBits};
+ghost use Rattle.model.specs.Layout.{stateLength, mostVcpus, initialisedAt, isInitialised, count, countAt, vcpus, edgeField, affinityField, bprField, leastBpr};
 ghost use Rattle.model.specs.Sound.{sound};
 ghost use Rattle.model.specs.Refusals.{firstFailing, number};
 ghost use Rattle.model.specs.Calls.{Does, call, checks, setChecks, make, addVcpu, setRunning, getAttribute, setAttribute, vcpuAdded, initialisedNext};
@@ -67,7 +69,7 @@ pub fn make_device(s: &mut [u32]) -> Answer
 // The words of a block that are not zero when its vCPU is added.
 fn write_block(b: &mut [u32], mpidr: Mpidr)
     requires { ⌜ length (now b) ≡ 32 ⌝ }
-    ensures { λ _. ⌜ now (b .exit) ≡ set (set (set (set (now (b .entry)) 13 0xffff) 16 (mpidr .0)) 21 2) 22 3 ⌝ }
+    ensures { λ _. ⌜ now (b .exit) ≡ set (set (set (set (now (b .entry)) edgeField edgeBits) affinityField (mpidr .0)) (bprField 0) (leastBpr 0)) (bprField 1) (leastBpr 1) ⌝ }
 {
     b[EDGES] = EDGE_BITS;
     b[AFFINITY] = mpidr.0;
@@ -181,7 +183,7 @@ fn count_or_default(c: u32) -> u32
 // The two words that initialise writes.
 fn mark_initialised(s: &mut [u32], count: u32)
     requires { ⌜ length (now s) ≡ stateLength ⌝ }
-    ensures { λ _. ⌜ now (s .exit) ≡ set (set (now (s .entry)) 1 count) 0 1 ⌝ }
+    ensures { λ _. ⌜ now (s .exit) ≡ set (set (now (s .entry)) countAt count) initialisedAt 1 ⌝ }
 {
     s[COUNT] = count;
     s[INITIALISED] = 1;
@@ -251,7 +253,7 @@ pub fn get_initialise(s: &[u32], attribute: u64) -> Answer
 pub fn set_running(s: &mut [u32], v: VcpuIndex, on: bool) -> Answer
     ensures { λ r. ⌜ Does (call (setRunning (v .0) on) (now (s .entry))) (number r) (now (s .exit)) [] ⌝ }
 {
-    if let Refusal::Refuse(e) = vcpu_refusal(s, v) {
+    if let Refusal::Refuse(e) = vcpu_refusal(s, Phase::Initialised, v) {
         return Answer::Refused(e);
     }
     put_in_block(s, v, RUNNING, on as u32);

@@ -8,6 +8,7 @@ use Rattle.model.specs.Calls.{readChecks, writeChecks, systemValue, systemReadS
 use Rattle.model.specs.declared.Answer.{Answer}
 use Rattle.model.specs.declared.Answer.the-variants.{Value, Refused}
 use Rattle.model.specs.declared.Errno.the-variants.{Enxio}
+use Rattle.model.specs.declared.By.the-variants.{Guest}
 use Rattle.model.specs.declared.Plain.{Plain}
 use Rattle.model.specs.declared.Readable.{Readable}
 use Rattle.model.specs.declared.Readable.the-variants.{Iar, Hppir, Rpr}
@@ -54,7 +55,7 @@ module _ (v : ℕ) (s : List ℕ) where
   rpr-read r n e q = rw e (record { answer = ap Value q; state = refl })
 
   module _ (r : SystemRegister) where
-    pub plain-read : (p : Plain) (n : ℕ) → r ≡ Both p → n ≡ plainRead s v p → Reads r v s (Value n) s
+    pub plain-read : (p : Plain) (n : ℕ) → r ≡ Both p → n ≡ plainRead Guest s v p → Reads r v s (Value n) s
     unfolding readChecks firstFailing systemValue systemReadState
     plain-read p n e q = rw e (record { answer = ap Value q; state = refl })
 
@@ -75,7 +76,7 @@ pub written-as : (s : List ℕ) (v x : ℕ) (w q : Writable) (t : List ℕ) → 
 written-as s v x w q t e h = rw e h
 
 module _ (v x : ℕ) (s : List ℕ) (r : SystemRegister) where
-  pub plain-written : (p : Plain) (t : List ℕ) → r ≡ Both p → t ≡ plainWrite s v p x → Writes r v x s (Value 0) t
+  pub plain-written : (p : Plain) (t : List ℕ) → r ≡ Both p → t ≡ plainWrite Guest s v p x → Writes r v x s (Value 0) t
   unfolding writeChecks firstFailing systemWriteState
   plain-written p t e h = rw e (record { answer = refl; state = h })
 

@@ -4,6 +4,7 @@ pub mod plain;
 mod sgi;
 
 use model::Answer;
+use model::By;
 use model::Errno;
 use model::Readable;
 use model::SystemRegister;
@@ -57,7 +58,7 @@ pub fn read_register(s: &mut [u32], v: VcpuIndex, register: SystemRegister) -> A
     ensures { λ r. ⌜ Reads register (v .0) (now (s .entry)) r (now (s .exit)) ⌝ }
 {
     match register {
-        SystemRegister::Both(p) => Answer::Value(read_plain(s, v, p)),
+        SystemRegister::Both(p) => Answer::Value(read_plain(s, By::Guest, v, p)),
         SystemRegister::Read(r) => read_only(s, v, r),
         SystemRegister::Write(_) => Answer::Refused(Errno::Enxio),
         SystemRegister::Unnamed => Answer::Refused(Errno::Enxio),
@@ -71,7 +72,7 @@ pub fn write_register(s: &mut [u32], v: VcpuIndex, register: SystemRegister, x: 
 {
     match register {
         SystemRegister::Both(p) => {
-            write_plain(s, v, p, x);
+            write_plain(s, By::Guest, v, p, x);
             Answer::Value(0)
         }
         SystemRegister::Write(w) => {

@@ -1,7 +1,7 @@
 -- `system::plain::write_plain` meets its contract.
 use lib.Dec.{lit<}
 use Rattle.model.specs.Interface.{plainWrite}
-use Rattle.system.proofs.Registers.{group-of, writes-as, writes-word, writes-point}
+use Rattle.system.proofs.Registers.{group-of, writes-as, writes-word, writes-control, writes-point}
 use borrow.Author.Needs.{needs}
 use Rattle.system.proofs.plain.write_plain.Statement.{statement}
 use Rattle.system.proofs.plain.write_plain.Tie as tie
