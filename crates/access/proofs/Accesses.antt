@@ -15,6 +15,7 @@ use Rattle.model.specs.Layout.{mostVcpus, vcpus, running}
 use Rattle.model.specs.Sound.{sound}
 use Rattle.model.specs.Refusals.{firstFailing}
 use Rattle.model.specs.Calls.{isVcpu, vcpuChecks, guestChecks, frameChecks}
+use Rattle.model.specs.declared.Phase.{Phase}
 use Rattle.model.specs.Registers.{decode, rows, banks, wordsOf, seenBy, read, write, writePriority, Access, whole, one, none, access, byByte, readAccess, writeAccess, guestRead, guestWrite}
 use Rattle.model.specs.declared.Errno.{Errno}
 use Rattle.model.specs.declared.Errno.the-variants.{Eperm, Efault, Einval}
@@ -154,27 +155,27 @@ byte-put s t x k byte value w e q = let r : value % 256 % 256 ≡ value % 256 = 
 -- ---- the frame that a call names
 
 -- the tests of a call that names a vCPU come first
-module _ (s : List ℕ) (v f : ℕ) (q : Refusal) (p : q ≡ firstFailing ((sound s, Efault) ∷ vcpuChecks v s)) where
-  pub front-frame : (e : Errno) → q ≡ Refuse e → Refuse e ≡ firstFailing ((sound s, Efault) ∷ frameChecks v f s)
+module _ (s : List ℕ) (a : Phase) (v f : ℕ) (q : Refusal) (p : q ≡ firstFailing ((sound s, Efault) ∷ vcpuChecks a v s)) where
+  pub front-frame : (e : Errno) → q ≡ Refuse e → Refuse e ≡ firstFailing ((sound s, Efault) ∷ frameChecks a v f s)
   unfolding frameChecks
-  front-frame e h = sym (fails-then ((sound s, Efault) ∷ vcpuChecks v s) ((isVcpu s f, Einval) ∷ (eqb (running s v) 1, Eperm) ∷ []) e (sym p ∙ h))
+  front-frame e h = sym (fails-then ((sound s, Efault) ∷ vcpuChecks a v s) ((isVcpu s f, Einval) ∷ (eqb (running s v) 1, Eperm) ∷ []) e (sym p ∙ h))
 
-  pub rest-frame : (r : Refusal) → q ≡ None → r ≡ firstFailing ((isVcpu s f, Einval) ∷ (eqb (running s v) 1, Eperm) ∷ []) → r ≡ firstFailing ((sound s, Efault) ∷ frameChecks v f s)
+  pub rest-frame : (r : Refusal) → q ≡ None → r ≡ firstFailing ((isVcpu s f, Einval) ∷ (eqb (running s v) 1, Eperm) ∷ []) → r ≡ firstFailing ((sound s, Efault) ∷ frameChecks a v f s)
   unfolding frameChecks
-  rest-frame r n e = e ∙ sym (none-then ((sound s, Efault) ∷ vcpuChecks v s) ((isVcpu s f, Einval) ∷ (eqb (running s v) 1, Eperm) ∷ []) (sym p ∙ n))
+  rest-frame r n e = e ∙ sym (none-then ((sound s, Efault) ∷ vcpuChecks a v s) ((isVcpu s f, Einval) ∷ (eqb (running s v) 1, Eperm) ∷ []) (sym p ∙ n))
 
 -- where they hold
-module _ (s : List ℕ) (v : ℕ) (q : Refusal) (p : q ≡ firstFailing ((sound s, Efault) ∷ vcpuChecks v s)) (n : q ≡ None) where
+module _ (s : List ℕ) (a : Phase) (v : ℕ) (q : Refusal) (p : q ≡ firstFailing ((sound s, Efault) ∷ vcpuChecks a v s)) (n : q ≡ None) where
   front-few : vcpus s ≤ mostVcpus
-  front-few = sound-vcpus s (admitted s q (vcpuChecks v s) p n .0)
+  front-few = sound-vcpus s (admitted s q (vcpuChecks a v s) p n .0)
 
   pub front-fits : Fits w64 (vcpus s)
   front-fits = record { fits = omega (arith, front-few) }
 
-pub frame-inside : (s : List ℕ) (r : Refusal) (v f : ℕ) (x : View) → r ≡ firstFailing ((sound s, Efault) ∷ frameChecks v f s) → r ≡ None → x ≡ Frame f → seenBy x < mostVcpus
+pub frame-inside : (s : List ℕ) (r : Refusal) (a : Phase) (v f : ℕ) (x : View) → r ≡ firstFailing ((sound s, Efault) ∷ frameChecks a v f s) → r ≡ None → x ≡ Frame f → seenBy x < mostVcpus
 unfolding frameChecks seenBy
-frame-inside s r v f x e n q =
-    let p = admitted s r (frameChecks v f s) e n in
+frame-inside s r a v f x e n q =
+    let p = admitted s r (frameChecks a v f s) e n in
     rw q (omega (arith, ltb-true f (vcpus s) (p .1 .1 .1 .0), sound-vcpus s (p .0)))
 
 pub frame-read : (s : List ℕ) (x : View) (f off size w : ℕ) → w ≡ guestRead s x off size → x ≡ Frame f → w ≡ guestRead s (Frame f) off size
@@ -185,6 +186,6 @@ frame-written s t x f off size value e q = rw (← q) e
 
 -- ---- an access to the distributor, tested as one to the vCPU's own frame
 
-pub own-frame : (s : List ℕ) (v : ℕ) (r : Refusal) → r ≡ firstFailing ((sound s, Efault) ∷ frameChecks v v s) → r ≡ firstFailing ((sound s, Efault) ∷ guestChecks v s)
+pub own-frame : (s : List ℕ) (a : Phase) (v : ℕ) (r : Refusal) → r ≡ firstFailing ((sound s, Efault) ∷ frameChecks a v v s) → r ≡ firstFailing ((sound s, Efault) ∷ guestChecks a v s)
 unfolding frameChecks guestChecks
-own-frame s v r e = e ∙ after _ _ _ (after _ _ _ (twice (isVcpu s v, Einval) ((eqb (running s v) 1, Eperm) ∷ [])))
+own-frame s a v r e = e ∙ after _ _ _ (after _ _ _ (twice (isVcpu s v, Einval) ((eqb (running s v) 1, Eperm) ∷ [])))

@@ -3,8 +3,11 @@ use model::Answer;
 use model::By;
 use model::Decoded;
 use model::Errno;
+use model::Phase;
+use model::Readable;
 use model::Refusal;
 use model::Register;
+use model::SystemRegister;
 use model::View;
 use model::layout::VCPUS;
 use registers::Bytes;
@@ -30,16 +33,16 @@ ghost use Rattle.model.specs.Layout.{mostVcpus};
 ghost use Rattle.model.specs.Sound.{sound};
 ghost use Rattle.model.specs.Refusals.{firstFailing, number};
 ghost use Rattle.model.specs.Registers.{banks, seenBy, byByte, writePriority, guestRead, guestWrite};
-ghost use Rattle.model.specs.Calls.{Does, call, guestChecks, frameChecks, readDistributor, writeDistributor, readFrame, writeFrame, readSystem, writeSystem};
+ghost use Rattle.model.specs.Calls.{Does, call, guestChecks, frameChecks, readPhase, readDistributor, writeDistributor, readFrame, writeFrame, readSystem, writeSystem};
 ghost use Rattle.model.specs.declared.Errno.the-variants.{Efault};
 
 // ---- refusals
 
-// 14 not sound; 16 not initialised; 22 no such vCPU or frame; 1 not running.
-fn frame_refusal(s: &[u32], v: VcpuIndex, frame: VcpuIndex) -> Refusal
-    ensures { λ r. ⌜ r ≡ firstFailing ((sound (now (s .entry)), Efault) ∷ frameChecks (v .0) (frame .0) (now (s .entry))) ⌝ }
+// 14 not sound; 16 another phase; 22 no such vCPU or frame; 1 not running.
+fn frame_refusal(s: &[u32], phase: Phase, v: VcpuIndex, frame: VcpuIndex) -> Refusal
+    ensures { λ r. ⌜ r ≡ firstFailing ((sound (now (s .entry)), Efault) ∷ frameChecks phase (v .0) (frame .0) (now (s .entry))) ⌝ }
 {
-    if let Refusal::Refuse(e) = vcpu_refusal(s, v) {
+    if let Refusal::Refuse(e) = vcpu_refusal(s, phase, v) {
         return Refusal::Refuse(e);
     }
     let n = s[VCPUS] as usize;
@@ -53,10 +56,10 @@ fn frame_refusal(s: &[u32], v: VcpuIndex, frame: VcpuIndex) -> Refusal
 }
 
 // The same for the distributor and for system registers: an access to them is tested as one to the vCPU's own frame.
-fn guest_refusal(s: &[u32], v: VcpuIndex) -> Refusal
-    ensures { λ r. ⌜ r ≡ firstFailing ((sound (now (s .entry)), Efault) ∷ guestChecks (v .0) (now (s .entry))) ⌝ }
+fn guest_refusal(s: &[u32], phase: Phase, v: VcpuIndex) -> Refusal
+    ensures { λ r. ⌜ r ≡ firstFailing ((sound (now (s .entry)), Efault) ∷ guestChecks phase (v .0) (now (s .entry))) ⌝ }
 {
-    frame_refusal(s, v, v)
+    frame_refusal(s, phase, v, v)
 }
 
 // ---- one access: 4 bytes aligned, or 1 byte in IPRIORITYR; all else reads 0 and ignores writes
@@ -136,7 +139,7 @@ fn guest_write(s: &mut [u32], view: View, offset: u64, size: u64, value: u64)
 pub fn read_distributor(s: &[u32], v: VcpuIndex, offset: u64, size: u64) -> Answer
     ensures { λ r. ⌜ Does (call (readDistributor (v .0) offset size) (now (s .entry))) (number r) (now (s .entry)) [] ⌝ }
 {
-    if let Refusal::Refuse(e) = guest_refusal(s, v) {
+    if let Refusal::Refuse(e) = guest_refusal(s, Phase::Initialised, v) {
         return Answer::Refused(e);
     }
     Answer::Value(guest_read(s, View::Distributor, offset, size))
@@ -146,7 +149,7 @@ pub fn read_distributor(s: &[u32], v: VcpuIndex, offset: u64, size: u64) -> Answ
 pub fn write_distributor(s: &mut [u32], v: VcpuIndex, offset: u64, size: u64, value: u64) -> Answer
     ensures { λ r. ⌜ Does (call (writeDistributor (v .0) offset size value) (now (s .entry))) (number r) (now (s .exit)) [] ⌝ }
 {
-    if let Refusal::Refuse(e) = guest_refusal(s, v) {
+    if let Refusal::Refuse(e) = guest_refusal(s, Phase::Changing, v) {
         return Answer::Refused(e);
     }
     guest_write(s, View::Distributor, offset, size, value);
@@ -157,7 +160,7 @@ pub fn write_distributor(s: &mut [u32], v: VcpuIndex, offset: u64, size: u64, va
 pub fn read_frame(s: &[u32], v: VcpuIndex, frame: VcpuIndex, offset: u64, size: u64) -> Answer
     ensures { λ r. ⌜ Does (call (readFrame (v .0) (frame .0) offset size) (now (s .entry))) (number r) (now (s .entry)) [] ⌝ }
 {
-    if let Refusal::Refuse(e) = frame_refusal(s, v, frame) {
+    if let Refusal::Refuse(e) = frame_refusal(s, Phase::Initialised, v, frame) {
         return Answer::Refused(e);
     }
     Answer::Value(guest_read(s, frame_view(frame), offset, size))
@@ -174,7 +177,7 @@ pub fn write_frame(
 ) -> Answer
     ensures { λ r. ⌜ Does (call (writeFrame (v .0) (frame .0) offset size value) (now (s .entry))) (number r) (now (s .exit)) [] ⌝ }
 {
-    if let Refusal::Refuse(e) = frame_refusal(s, v, frame) {
+    if let Refusal::Refuse(e) = frame_refusal(s, Phase::Changing, v, frame) {
         return Answer::Refused(e);
     }
     guest_write(s, frame_view(frame), offset, size, value);
@@ -183,21 +186,36 @@ pub fn write_frame(
 
 // ---- system registers
 
+// The phase that a read asks for: an acknowledge changes interrupts, the other reads do not.
+fn read_phase(register: SystemRegister) -> Phase
+    ensures { λ r. ⌜ r ≡ readPhase register ⌝ }
+{
+    let SystemRegister::Read(only) = register else {
+        return Phase::Initialised;
+    };
+    match only {
+        Readable::Iar(_) => Phase::Changing,
+        Readable::Hppir(_) => Phase::Initialised,
+        Readable::Rpr => Phase::Initialised,
+    }
+}
+
 // Reads a system register.
 pub fn read_system(s: &mut [u32], v: VcpuIndex, encoding: u64) -> Answer
     ensures { λ r. ⌜ Does (call (readSystem (v .0) encoding) (now (s .entry))) (number r) (now (s .exit)) [] ⌝ }
 {
-    if let Refusal::Refuse(e) = guest_refusal(s, v) {
+    let register = register_of(encoding);
+    if let Refusal::Refuse(e) = guest_refusal(s, read_phase(register), v) {
         return Answer::Refused(e);
     }
-    read_register(s, v, register_of(encoding))
+    read_register(s, v, register)
 }
 
 // Writes a system register.
 pub fn write_system(s: &mut [u32], v: VcpuIndex, encoding: u64, value: u64) -> Answer
     ensures { λ r. ⌜ Does (call (writeSystem (v .0) encoding value) (now (s .entry))) (number r) (now (s .exit)) [] ⌝ }
 {
-    if let Refusal::Refuse(e) = guest_refusal(s, v) {
+    if let Refusal::Refuse(e) = guest_refusal(s, Phase::Changing, v) {
         return Answer::Refused(e);
     }
     write_register(s, v, register_of(encoding), value)

@@ -15,7 +15,10 @@ use Rattle.model.specs.Interrupts.{isPrivate, isPpi, isSpi, setFlag}
 use Rattle.model.specs.Sound.{sound}
 use Rattle.model.specs.Refusals.{firstFailing}
 use Rattle.model.specs.Lines.{latches, lineChanged}
-use Rattle.model.specs.Calls.{hasLine, vcpuChecks}
+use Rattle.model.specs.Calls.{hasLine, vcpuChecks, phase}
+use Rattle.model.specs.declared.Phase.{Phase}
+use Rattle.model.specs.declared.Phase.the-variants.{Changing}
+use Rattle.model.proofs.Kept.{in-phase}
 use Rattle.model.specs.declared.Errno.the-variants.{Efault, Ebusy, Einval}
 use Rattle.model.specs.declared.Refusal.{Refusal}
 use Rattle.model.specs.declared.Refusal.the-variants.{None}
@@ -105,11 +108,11 @@ line-stored s p t u v id level e q r = rw (r, q, same-bank s v id u e)
 
 -- ---- where the change is not refused
 
-pub line-admitted : (s t : List ℕ) (r : Refusal) (v id : ℕ) → r ≡ firstFailing ((sound s, Efault) ∷ (isInitialised s, Ebusy) ∷ (hasLine s v id, Einval) ∷ []) → r ≡ None → t ≡ s
+pub line-admitted : (s t : List ℕ) (r : Refusal) (v id : ℕ) → r ≡ firstFailing ((sound s, Efault) ∷ phase Changing s ∷ (hasLine s v id, Einval) ∷ []) → r ≡ None → t ≡ s
     → hasLine t v id ≡ true
-line-admitted s t r v id e n q = rw q (admitted s r ((isInitialised s, Ebusy) ∷ (hasLine s v id, Einval) ∷ []) e n .1 .1 .0)
+line-admitted s t r v id e n q = rw q (admitted s r (phase Changing s ∷ (hasLine s v id, Einval) ∷ []) e n .1 .1 .0)
 
 -- ---- what the signal asks, where its query is not refused
 
-pub vcpu-usable : (v : ℕ) (s : List ℕ) (q : Refusal) → q ≡ firstFailing ((sound s, Efault) ∷ vcpuChecks v s) → q ≡ None → Usable s v
-vcpu-usable v s q p h = let d = admitted s q (vcpuChecks v s) p h in usable s v (d .0) (d .1 .0) (d .1 .1 .0)
+pub vcpu-usable : (v : ℕ) (s : List ℕ) (q : Refusal) (f : Phase) → q ≡ firstFailing ((sound s, Efault) ∷ vcpuChecks f v s) → q ≡ None → Usable s v
+vcpu-usable v s q f p h = let d = admitted s q (vcpuChecks f v s) p h in usable s v (d .0) (in-phase f s (d .1 .0)) (d .1 .1 .0)

@@ -1,16 +1,17 @@
 // Line changes and the signal query. Each has its refusals in document 01's order, EFAULT first.
 use model::Answer;
 use model::Errno;
+use model::Phase;
 use model::Refusal;
 use model::layout::BANK_LENGTH;
 use model::layout::EDGES;
-use model::layout::INITIALISED;
 use model::layout::LATCH;
 use model::layout::LINE;
 use model::layout::VCPUS;
 use priority::acknowledge::signal;
 use state::VcpuIndex;
 use state::bank_at;
+use state::in_phase;
 use state::is_sound;
 use state::is_spi;
 use state::put_flag;
@@ -22,13 +23,14 @@ ghost use mathlib.Core.List.{[], _∷_};
 ghost use mathlib.Core.Bool.{true, cond};
 ghost use Prim.Native.Nat.{_≤_, _<_};
 ghost use lib.ListN.{length};
-ghost use Rattle.model.specs.Layout.{stateLength, mostVcpus, vcpus, isInitialised};
+ghost use Rattle.model.specs.Layout.{stateLength, mostVcpus, vcpus};
 ghost use Rattle.model.specs.Interrupts.{isPrivate};
 ghost use Rattle.model.specs.Sound.{sound};
 ghost use Rattle.model.specs.Refusals.{firstFailing, number};
 ghost use Rattle.model.specs.Lines.{lineChanged};
-ghost use Rattle.model.specs.Calls.{Does, call, hasLine, changeLine, querySignal};
-ghost use Rattle.model.specs.declared.Errno.the-variants.{Efault, Ebusy, Einval};
+ghost use Rattle.model.specs.Calls.{Does, call, phase, hasLine, changeLine, querySignal};
+ghost use Rattle.model.specs.declared.Errno.the-variants.{Efault, Einval};
+ghost use Rattle.model.specs.declared.Phase.the-variants.{Changing};
 ghost use Rattle.lines.specs.Lines.{risesIn, riseLatched};
 
 // ---- the signal
@@ -37,7 +39,7 @@ ghost use Rattle.lines.specs.Lines.{risesIn, riseLatched};
 pub fn query_signal(s: &[u32], v: VcpuIndex) -> Answer
     ensures { λ r. ⌜ Does (call (querySignal (v .0)) (now (s .entry))) (number r) (now (s .entry)) [] ⌝ }
 {
-    if let Refusal::Refuse(e) = vcpu_refusal(s, v) {
+    if let Refusal::Refuse(e) = vcpu_refusal(s, Phase::Initialised, v) {
         return Answer::Refused(e);
     }
     Answer::Value(signal(s, v))
@@ -56,14 +58,14 @@ fn has_line(s: &[u32], v: VcpuIndex, id: usize) -> bool
     is_spi(s, id)
 }
 
-// 14 not sound; 16 not initialised; 22 a missing index, or no PPI or SPI.
+// 14 not sound; 16 another phase; 22 a missing index, or no PPI or SPI.
 fn line_refusal(s: &[u32], v: VcpuIndex, id: usize) -> Refusal
-    ensures { λ r. ⌜ r ≡ firstFailing ((sound (now (s .entry)), Efault) ∷ (isInitialised (now (s .entry)), Ebusy) ∷ (hasLine (now (s .entry)) (v .0) id, Einval) ∷ []) ⌝ }
+    ensures { λ r. ⌜ r ≡ firstFailing ((sound (now (s .entry)), Efault) ∷ phase Changing (now (s .entry)) ∷ (hasLine (now (s .entry)) (v .0) id, Einval) ∷ []) ⌝ }
 {
     if !is_sound(s) {
         return Refusal::Refuse(Errno::Efault);
     }
-    if s[INITIALISED] != 1 {
+    if !in_phase(s, Phase::Changing) {
         return Refusal::Refuse(Errno::Ebusy);
     }
     if !has_line(s, v, id) {

@@ -14,16 +14,26 @@ use Rattle.model.specs.Values.{edgeBits}
 use Rattle.model.specs.Words.{val, within}
 use Rattle.model.specs.Layout.{stateLength, word, initialised, isInitialised, count, countAt, vcpus, vcpusAt, block, affinity, affinityField, affinityAt, bprField, bprAt, leastBpr, edgeField, sgiEdgesAt, runningField, runningAt}
 use Rattle.model.specs.Sound.{entry, freshBits, freshHeaderBits, freshBlockBits, fits, isCount, setup, isAffinity, unused, vcpuOk, sound}
-use Rattle.model.specs.Calls.{Call, make, addVcpu, setRunning, changeLine, querySignal, readDistributor, writeDistributor, readFrame, writeFrame, readSystem, writeSystem, getAttribute, setAttribute, save, restore, describe, acceptable, checks, made, vcpuAdded, initialisedNext, nextCore, call}
+use Rattle.model.specs.Calls.{Call, make, addVcpu, setRunning, changeLine, querySignal, readDistributor, writeDistributor, readFrame, writeFrame, readSystem, writeSystem, getAttribute, setAttribute, save, restore, describe, inPhase, acceptable, checks, made, vcpuAdded, initialisedNext, nextCore, call}
+use Rattle.model.specs.declared.Phase.{Phase}
+use Rattle.model.specs.declared.Phase.the-variants.{Initialised, Changing, Stopped}
 use Rattle.model.proofs.Tests.{or-right, below-at}
 use Rattle.model.proofs.Within.{zero-fits, fits-none}
-use Rattle.model.proofs.Soundness.{Sound, open-sound, sound-length, is-count, setup-mark, setup-vcpus, setup-counted, word-fresh, word-used, core-ready, close-vcpu, vcpu-kept}
+use Rattle.model.proofs.Soundness.{Sound, open-sound, sound-length, is-count, setup-mark, setup-vcpus, setup-counted, word-fresh, word-used, core-ready, stopped-mark, close-vcpu, vcpu-kept}
 use Rattle.model.proofs.Derived.{with-sound}
 use Rattle.model.proofs.Affinities.{affinity-fits}
 use Rattle.model.proofs.Fresh.{made-sound, all-ones, initialise-leaves-fresh}
 use Rattle.model.proofs.Refused.{Passed, passed, tests-next, IsGranted, every-call}
 use Rattle.model.proofs.Masks.{entry-there, fresh-block-bits, block-is}
 use Rattle.model.proofs.Stores.{stored, store-sound, block-store}
+
+-- ---- a device in a phase
+
+-- in every phase that a call may ask for it is initialised
+pub in-phase : (p : Phase) (s : List ℕ) → inPhase p s ≡ true → isInitialised s ≡ true
+in-phase Initialised s e = e
+in-phase Changing s e = e
+in-phase Stopped s e = eq-eqb (initialised s) 1 (stopped-mark s e)
 
 -- ---- a device that is not initialised
 

@@ -13,7 +13,7 @@ use Rattle.model.specs.Interface.{system}
 use Rattle.model.specs.Attributes.{high, low, indexOf, groupOf, numberOk, affinityKnown, item, itemWrite}
 use Rattle.model.specs.Calls.{Call, make, addVcpu, setRunning, changeLine, querySignal, readDistributor, writeDistributor, readFrame, writeFrame, readSystem, writeSystem, getAttribute, setAttribute, save, restore, guestChecks, frameChecks, registerChecks, setChecks, checks, setState, nextCore, call, after, describe, inPhase, readPhase}
 use Rattle.model.specs.declared.Phase.{Phase}
-use Rattle.model.specs.declared.Phase.the-variants.{Initialised, Changing, Stopped}
+use Rattle.model.specs.declared.Phase.the-variants.{Initialised, Changing}
 use Rattle.model.specs.declared.View.the-variants as view
 use Rattle.model.specs.declared.RegisterGroup.{RegisterGroup}
 use Rattle.model.specs.declared.RegisterGroup.the-variants.{Distributor, Redistributor, Interface, Lines}
@@ -25,7 +25,7 @@ use Rattle.model.proofs.Fresh.{made-sound}
 use Rattle.model.proofs.Refused.{Passed, tests-next, none-of, is-granted}
 use Rattle.model.proofs.Decode.{system-group}
 use Rattle.model.proofs.Writes.{line-sound}
-use Rattle.model.proofs.Kept.{not-marked, counted-sound, added-sound, running-sound, initialise-sound, make-sound, kept}
+use Rattle.model.proofs.Kept.{in-phase, not-marked, counted-sound, added-sound, running-sound, initialise-sound, make-sound, kept}
 use Rattle.model.proofs.Mapped.{guest-write-sound, mapped-sound, lines-sound}
 use Rattle.model.proofs.System.{read-state-sound, write-state-sound, system-item-sound}
 use Rattle.model.proofs.Loaded.{loaded-sound}
@@ -52,10 +52,8 @@ set-sound Unknown a x s h p = open-sound s h
 -- ---- any call whose tests pass
 
 -- in every phase that a call may ask for the device is initialised
-in-phase : (p : Phase) (s : List ℕ) → inPhase p s ≡ true → initialised s ≡ 1
-in-phase Initialised s e = eqb-true _ _ e
-in-phase Changing s e = eqb-true _ _ e
-in-phase Stopped s e = stopped-mark s e
+phase-mark : (p : Phase) (s : List ℕ) → inPhase p s ≡ true → initialised s ≡ 1
+phase-mark p s e = eqb-true _ _ (in-phase p s e)
 
 core-kept : (c : Call) (s : List ℕ) → sound s ≡ true → Passed (checks c s) → Sound (nextCore c s)
 unfolding describe guestChecks frameChecks seenBy
@@ -63,16 +61,16 @@ core-kept make s h p = made-sound
 core-kept (addVcpu a) s h p =
     let o = open-sound s h in
     added-sound s a o (record { start = not-marked s o (not-true _ (p .0)); valid = p .1 .0; new = p .1 .1 .0; room = ltb-true _ _ (p .1 .1 .1 .0) })
-core-kept (setRunning v on) s h p = running-sound s v on (open-sound s h) (in-phase Initialised s (p .0)) (ltb-true _ _ (p .1 .0))
-core-kept (changeLine v id level) s h p = line-sound s (ready s h (in-phase Changing s (p .0))) v id level (p .1 .0)
+core-kept (setRunning v on) s h p = running-sound s v on (open-sound s h) (phase-mark Initialised s (p .0)) (ltb-true _ _ (p .1 .0))
+core-kept (changeLine v id level) s h p = line-sound s (ready s h (phase-mark Changing s (p .0))) v id level (p .1 .0)
 core-kept (querySignal v) s h p = open-sound s h
 core-kept (readDistributor v off size) s h p = open-sound s h
-core-kept (writeDistributor v off size x) s h p = let r = ready s h (in-phase Changing s (p .0)) in guest-write-sound s r view.Distributor off size x (r .some)
+core-kept (writeDistributor v off size x) s h p = let r = ready s h (phase-mark Changing s (p .0)) in guest-write-sound s r view.Distributor off size x (r .some)
 core-kept (readFrame v f off size) s h p = open-sound s h
 core-kept (writeFrame v f off size x) s h p =
-    guest-write-sound s (ready s h (in-phase Changing s (p .0))) (view.Frame f) off size x (ltb-true f (vcpus s) (p .1 .1 .0))
-core-kept (readSystem v e) s h p = read-state-sound s (ready s h (in-phase (readPhase (system e)) s (p .0))) v (ltb-true v (vcpus s) (p .1 .0)) (system e) (system-group e)
-core-kept (writeSystem v e x) s h p = write-state-sound s (ready s h (in-phase Changing s (p .0))) v (ltb-true v (vcpus s) (p .1 .0)) (system e) x (system-group e)
+    guest-write-sound s (ready s h (phase-mark Changing s (p .0))) (view.Frame f) off size x (ltb-true f (vcpus s) (p .1 .1 .0))
+core-kept (readSystem v e) s h p = read-state-sound s (ready s h (phase-mark (readPhase (system e)) s (p .0))) v (ltb-true v (vcpus s) (p .1 .0)) (system e) (system-group e)
+core-kept (writeSystem v e x) s h p = write-state-sound s (ready s h (phase-mark Changing s (p .0))) v (ltb-true v (vcpus s) (p .1 .0)) (system e) x (system-group e)
 core-kept (getAttribute g a) s h p = open-sound s h
 core-kept (setAttribute g a x) s h p = set-sound (groupOf g) a x s h p
 core-kept (save buf) s h p = open-sound s h

@@ -7,5 +7,5 @@ use Rattle.lines.proofs.line_refusal.Tie as tie
 pub line-refusal-spec : {M : Type 1} → statement M
 line-refusal-spec =
     tie.close
-    (tie.spec (λ c κs. search needs) (λ c. search refusing depth 12) (λ c. search inside) (λ c. search refusing depth 12)
+    (tie.spec (λ c κs. search needs) (λ c. search refusing depth 12) (λ c κs. (search inside, search inside)) (λ c. search refusing depth 12)
     (λ c κs. search inside) (λ c. search refusing depth 12) (λ c. search refusing depth 12))
