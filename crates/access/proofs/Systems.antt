@@ -8,14 +8,19 @@ use Rattle.model.specs.Refusals.{Check, firstFailing, number}
 use Rattle.model.specs.Interface.{system, groupIn}
 use Rattle.model.specs.Calls.{Call, Does, call, acceptable, lentTo, filled, guestChecks, readPhase, readChecks, writeChecks, checks, refusal, value, nextCore, readSystem, writeSystem, describe}
 use Rattle.model.specs.declared.Phase.{Phase}
-use Rattle.model.specs.declared.Phase.the-variants.{Changing}
+use Rattle.model.specs.declared.Phase.the-variants.{Initialised, Changing}
 use Rattle.model.specs.declared.Errno.{Errno}
 use Rattle.model.specs.declared.Errno.the-variants.{Efault}
 use Rattle.model.specs.declared.Refusal.{Refusal}
 use Rattle.model.specs.declared.Refusal.the-variants.{None, Refuse}
 use Rattle.model.specs.declared.Answer.{Answer}
 use Rattle.model.specs.declared.Answer.the-variants.{Refused}
+use Rattle.model.specs.declared.Plain.{Plain}
+use Rattle.model.specs.declared.Readable.{Readable}
+use Rattle.model.specs.declared.Readable.the-variants.{Iar, Hppir, Rpr}
+use Rattle.model.specs.declared.Writable.{Writable}
 use Rattle.model.specs.declared.SystemRegister.{SystemRegister}
+use Rattle.model.specs.declared.SystemRegister.the-variants.{Both, Read, Write, Unnamed}
 use Rattle.model.proofs.Decode.{system-group}
 use Rattle.model.proofs.Kept.{in-phase}
 use Rattle.model.proofs.Refused.{none-then, fails-then, refusal-list, refuses, grants}
@@ -24,6 +29,37 @@ use Rattle.priority.specs.Asked.{Usable}
 use Rattle.priority.specs.Settled.{Settled}
 use Rattle.system.specs.Answers.{Reads, Writes}
 use Rattle.priority.proofs.Usable.{usable}
+
+-- ---- the phase that a read asks for
+
+module _ (r : Readable) where
+  pub iar-phase : (g : ℕ) → r ≡ Iar g → Changing ≡ readPhase (Read r)
+  unfolding readPhase
+  iar-phase g e = rw e
+
+  pub hppir-phase : (g : ℕ) → r ≡ Hppir g → Initialised ≡ readPhase (Read r)
+  unfolding readPhase
+  hppir-phase g e = rw e
+
+  pub rpr-phase : r ≡ Rpr → Initialised ≡ readPhase (Read r)
+  unfolding readPhase
+  rpr-phase e = rw e
+
+module _ (r : SystemRegister) where
+  pub both-phase : (p : Plain) → r ≡ Both p → Initialised ≡ readPhase r
+  unfolding readPhase
+  both-phase p e = rw e
+
+  pub only-phase : (q : Readable) (f : Phase) → r ≡ Read q → f ≡ readPhase (Read q) → f ≡ readPhase r
+  only-phase q f e h = rw e h
+
+  pub write-phase : (w : Writable) → r ≡ Write w → Initialised ≡ readPhase r
+  unfolding readPhase
+  write-phase w e = rw e
+
+  pub unnamed-phase : r ≡ Unnamed → Initialised ≡ readPhase r
+  unfolding readPhase
+  unnamed-phase e = rw e
 
 -- ---- tests in front of others, in a call on a device
 

@@ -35,6 +35,7 @@ ghost use Rattle.model.specs.Refusals.{firstFailing, number};
 ghost use Rattle.model.specs.Registers.{banks, seenBy, byByte, writePriority, guestRead, guestWrite};
 ghost use Rattle.model.specs.Calls.{Does, call, guestChecks, frameChecks, readPhase, readDistributor, writeDistributor, readFrame, writeFrame, readSystem, writeSystem};
 ghost use Rattle.model.specs.declared.Errno.the-variants.{Efault};
+ghost use Rattle.model.specs.declared.SystemRegister.the-variants.{Read};
 
 // ---- refusals
 
@@ -186,17 +187,26 @@ pub fn write_frame(
 
 // ---- system registers
 
-// The phase that a read asks for: an acknowledge changes interrupts, the other reads do not.
-fn read_phase(register: SystemRegister) -> Phase
-    ensures { λ r. ⌜ r ≡ readPhase register ⌝ }
+// The phase that a read of a register that is only read asks for: an acknowledge changes interrupts.
+fn only_phase(register: Readable) -> Phase
+    ensures { λ r. ⌜ r ≡ readPhase (Read register) ⌝ }
 {
-    let SystemRegister::Read(only) = register else {
-        return Phase::Initialised;
-    };
-    match only {
+    match register {
         Readable::Iar(_) => Phase::Changing,
         Readable::Hppir(_) => Phase::Initialised,
         Readable::Rpr => Phase::Initialised,
+    }
+}
+
+// The phase that a read asks for.
+fn read_phase(register: SystemRegister) -> Phase
+    ensures { λ r. ⌜ r ≡ readPhase register ⌝ }
+{
+    match register {
+        SystemRegister::Both(_) => Phase::Initialised,
+        SystemRegister::Read(only) => only_phase(only),
+        SystemRegister::Write(_) => Phase::Initialised,
+        SystemRegister::Unnamed => Phase::Initialised,
     }
 }
 

@@ -150,13 +150,21 @@ pub fn signal(s: &[u32], v: VcpuIndex) -> u32
     if is_given(s, v, 0, b) { 2 } else { 0 }
 }
 
+// Clears the latch of interrupt `id`, and not its line: a level interrupt stays pending while its line is high.
+fn clear_latch(s: &mut [u32], v: VcpuIndex, id: usize)
+    requires { ⌜ (length (now s) ≡ stateLength) × (v .0 < mostVcpus) × (id < 1024) ⌝ }
+    ensures { λ _. ⌜ now (s .exit) ≡ setFlag latchField false (v .0) id (now (s .entry)) ⌝ }
+{
+    put_flag(s, LATCH, false, v, id);
+}
+
 // Makes interrupt `id` active, clears its latch, and sets bit `level` of AP`g`R.
 fn take(s: &mut [u32], v: VcpuIndex, g: usize, id: usize, level: u32)
     requires { ⌜ (length (now s) ≡ stateLength) × (v .0 < mostVcpus) × (g < 2) × (id < 1024) × (level < 32) ⌝ }
     ensures { λ _. ⌜ now (s .exit) ≡ setLevel true (v .0) g level (setFlag latchField false (v .0) id (setFlag activeField true (v .0) id (now (s .entry)))) ⌝ }
 {
     put_flag(s, ACTIVE, true, v, id);
-    put_flag(s, LATCH, false, v, id);
+    clear_latch(s, v, id);
     put_level(s, v, g, level, true);
 }
 
