@@ -8,7 +8,7 @@ use native.Mathlib.Omega.{arith}
 use native.Mathlib.Decide.{ℕ-discrete, decLt}
 use lib.ListN.{length, getD, set, drop, drop-of-length-le}
 use lib.Seq.{drop-cons, getD-set-same, getD-set-other}
-use Rattle.model.specs.Layout.{stateLength, word, count, vcpus}
+use Rattle.model.specs.Layout.{word, count, vcpus}
 use Rattle.model.specs.Sound.{fits, usedBits}
 use Rattle.model.specs.Attributes.{Attribute, itemOf, itemWrite}
 use Rattle.model.specs.Record.{Entry, header, attributeOf, entryRead, entries, readable, entryPut, Number, decoded, broken, decodeNumber, Loaded, fault, taking, load, restored}
@@ -52,8 +52,8 @@ module _ (t : List ℕ) (ht : Fresh t) where
   rt : Ready t
   rt = fresh-ready t ht
 
-  rest : Resting t
-  rest = stopped-resting t (fresh-stopped t ht)
+  at-rest : Resting t
+  at-rest = stopped-resting t (fresh-stopped t ht)
 
   -- both are initialised too
   same-set-up : (s : List ℕ) → Ready s → Alike t s → SameSetUp s t
@@ -96,7 +96,7 @@ module _ (t : List ℕ) (ht : Fresh t) where
     unfolding ReadsSo takes
     shows-reads e =
         let d = withDerived (set t (placeOf l) (hidden k v)) in
-        let w = derived-like t _ (with-shown e t (like-itself t rest)) in
+        let w = derived-like t _ (with-shown e t (like-itself t at-rest)) in
         (d, w .0, w .1, reads-kind t l q d (stopped-ready d (w .0)) (w .1) ∙ ap (shown k) (shown-word t rt) ∙ of-shown k (q .tidy) v e .back)
 
   readable-means : {e : Entry} {x : Slot} → Means t e x → (v : ℕ) → readable t e v ≡ takes t x v
@@ -115,9 +115,6 @@ module _ (t : List ℕ) (ht : Fresh t) where
       (e : takes t (Word (placeOf l) k) v ≡ true) (old : word s (placeOf l) ≡ word t (placeOf l)) where
     abbrev p : ℕ
     p = placeOf l
-
-    inside : p < stateLength
-    inside = place-inside t rt l
 
     abbrev w : ℕ
     w = hidden k v
@@ -262,4 +259,4 @@ module _ (t : List ℕ) (ht : Fresh t) where
 
   pub restored-slots : (bytes : List ℕ) → restored t bytes ≡ loadSlots t xs bytes t
   unfolding restored
-  restored-slots bytes = loads (length xs) 0 (omega arith) bytes t (record { like = like-itself t rest; rest = λ j l m. none-put (slotAt j) })
+  restored-slots bytes = loads (length xs) 0 (omega arith) bytes t (record { like = like-itself t at-rest; rest = λ j l m. none-put (slotAt j) })
