@@ -8,22 +8,24 @@ use native.Mathlib.Omega.{arith}
 use native.Mathlib.Decide.{ℕ-discrete, decLt}
 use lib.ListN.{length, getD, set, drop, drop-of-length-le}
 use lib.Seq.{drop-cons, getD-set-same, getD-set-other}
-use Rattle.model.specs.Layout.{stateLength, word, count, vcpus}
+use Rattle.model.specs.Layout.{word, count, vcpus}
 use Rattle.model.specs.Sound.{fits, usedBits}
 use Rattle.model.specs.Attributes.{Attribute, itemOf, itemWrite}
 use Rattle.model.specs.Record.{Entry, header, attributeOf, entryRead, entries, readable, entryPut, Number, decoded, broken, decodeNumber, Loaded, fault, taking, load, restored}
+use Rattle.model.specs.Roles.{roleOf, isDerived, withDerived}
 use Rattle.model.specs.Demands.{Stopped, Fresh, Alike}
 use Rattle.model.specs.declared.Errno.the-variants.{Einval}
 use Rattle.model.specs.declared.Item.{Item}
-use Rattle.model.proofs.Soundness.{Ready, stopped-ready}
-use Rattle.model.proofs.Stores.{store-same, store-stopped}
-use Rattle.model.proofs.Mixed.{Between, between-start, between-put, mixed-alike, mixed-stopped}
+use Rattle.model.proofs.Soundness.{Ready, stopped-ready, ready-is-sound, Resting, stopped-resting}
+use Rattle.model.proofs.Derived.{with-word}
+use Rattle.model.proofs.Stores.{SameSetUp, stands, stands-alike, MayStore, store-same, store-resting}
+use Rattle.model.proofs.Mixed.{Between}
 use Rattle.model.proofs.Listed.{Listed, member}
 use Rattle.model.proofs.Places.{placeOf, shapeOf, namedBy, names-item, reads-place}
 use Rattle.model.proofs.Places as places
-use Rattle.model.proofs.Cover.{place-inside, carried}
+use Rattle.model.proofs.Cover.{place-core, place-inside, carried}
 use Rattle.model.proofs.Restores.{fresh-ready, fresh-stopped, item-put}
-use Rattle.model.proofs.ReadsBack.{put-leaves, StoppedLike, like-itself, put-like, ReadsSo, readable-exactly, alike-back}
+use Rattle.model.proofs.ReadsBack.{put-leaves, RestingLike, alike-then, like-itself, put-like, derived-like, ReadsSo, readable-exactly, alike-back}
 use Rattle.record.specs.Slots.{shown, hidden, slots, takes, slotPut, loadSlots}
 use Rattle.record.specs.declared.slots.Kind.{Kind}
 use Rattle.record.specs.declared.slots.Slot.{Slot}
@@ -39,19 +41,23 @@ same-bool false true p q = q refl
 same-bool false false p q = refl
 
 -- what a listed attribute reads, in a device of t's set-up, by the kind of the word at its place
-module _ (t : List ℕ) {a : Attribute} {k : Kind} (l : Listed t a) (q : KindOf t (placeOf l) (shapeOf l) k) (d : List ℕ) (hd : Stopped d) (same : Alike t d) where
+module _ (t : List ℕ) {a : Attribute} {k : Kind} (l : Listed t a) (q : KindOf t (placeOf l) (shapeOf l) k) (d : List ℕ) (hd : Ready d) (same : Alike t d) where
   reads-kind : entryRead d (attributeOf a) ≡ shown k (word d (placeOf l))
   unfolding entryRead
   reads-kind =
       let c = carried t d same l in
-      (rw (c .place, c .shape) at (reads-place d (stopped-ready d hd) (c .there))) ∙ sym (q .alike (word d (placeOf l)))
+      (rw (c .place, c .shape) at (reads-place d hd (c .there))) ∙ sym (q .alike (word d (placeOf l)))
 
 module _ (t : List ℕ) (ht : Fresh t) where
   rt : Ready t
   rt = fresh-ready t ht
 
-  stop : Stopped t
-  stop = fresh-stopped t ht
+  at-rest : Resting t
+  at-rest = stopped-resting t (fresh-stopped t ht)
+
+  -- both are initialised too
+  same-set-up : (s : List ℕ) → Ready s → Alike t s → SameSetUp s t
+  same-set-up s rs a = record { same-mark = rt .mark ∙ sym (rs .mark); alike = alike-back t s a }
 
   -- ---- a value is readable exactly where its slot takes it
 
@@ -61,29 +67,37 @@ module _ (t : List ℕ) (ht : Fresh t) where
     reads-shows r =
         let d = r .0 in
         let hd = stopped-ready d (r .1) in
-        let e : shown k (word d (placeOf l)) ≡ v = sym (reads-kind t l q d (r .1) (r .2)) ∙ r .3 in
+        let e : shown k (word d (placeOf l)) ≡ v = sym (reads-kind t l q d hd (r .2)) ∙ r .3 in
         let f : fits (word d (placeOf l)) (usedBits (count t) (vcpus t) (placeOf l)) ≡ true =
         rw (r .2 .same-count, r .2 .same-number) at (hd .used (placeOf l) (place-inside t rt l)) in
         rw e at (is-shown k (q .tidy) (word d (placeOf l)) (rw (q .mask) at f) (q .least d hd (r .2 .same-number)))
 
-    -- the target with the word that is shown as v
-    with-word : takes t (Word (placeOf l) k) v ≡ true → StoppedLike t (set t (placeOf l) (hidden k v))
+    -- a device of t's set-up at rest stays one where the word that is shown as v is stored
+    with-shown : takes t (Word (placeOf l) k) v ≡ true → (s : List ℕ) → RestingLike t s → RestingLike t (set s (placeOf l) (hidden k v))
     unfolding takes
-    with-word e =
-        let h = of-shown k (q .tidy) v e in
-        let m = q .store (hidden k v) (h .fit) (h .least) in
+    with-shown e s h =
+        let o = of-shown k (q .tidy) v e in
+        let m = q .store (hidden k v) (o .fit) (o .least) in
+        let rs = h .resting .is-ready in
+        let n : MayStore s (placeOf l) (hidden k v) =
+        record { inside = m .inside; free = m .free; may = stands-alike s t (placeOf l) (hidden k v) (same-set-up s rs (h .alike)) (m .may) } in
         record {
-          stopped = store-stopped t (placeOf l) (hidden k v) m stop (put-leaves t rt l 0 .idle);
-          alike = store-same t (placeOf l) (hidden k v) m .alike;
+          resting = store-resting s (placeOf l) (hidden k v) (rs .few) n (h .resting) (λ u j. put-leaves t rt l 0 .idle u (rw (h .alike .same-number) at j));
+          alike = alike-then t s _ (h .alike) (store-same s (placeOf l) (hidden k v) (rs .few) n .alike);
         }
+
+    -- the word there, once the derived words are put in too
+    shown-word : (s : List ℕ) → Ready s → word (withDerived (set s (placeOf l) (hidden k v))) (placeOf l) ≡ hidden k v
+    shown-word s rs =
+        with-word (set s (placeOf l) (hidden k v)) (placeOf l) (place-core t rt l)
+        ∙ getD-set-same s (placeOf l) (hidden k v) 0 (omega (arith, rs .size, place-inside t rt l))
 
     shows-reads : takes t (Word (placeOf l) k) v ≡ true → ReadsSo t a v
     unfolding ReadsSo takes
     shows-reads e =
-        let w = with-word e in
-        let d = set t (placeOf l) (hidden k v) in
-        let at : word d (placeOf l) ≡ hidden k v = getD-set-same t (placeOf l) (hidden k v) 0 (omega (arith, rt .size, place-inside t rt l)) in
-        (d, w .stopped, w .alike, reads-kind t l q d (w .stopped) (w .alike) ∙ ap (shown k) at ∙ of-shown k (q .tidy) v e .back)
+        let d = withDerived (set t (placeOf l) (hidden k v)) in
+        let w = derived-like t _ (with-shown e t (like-itself t at-rest)) in
+        (d, w .0, w .1, reads-kind t l q d (stopped-ready d (w .0)) (w .1) ∙ ap (shown k) (shown-word t rt) ∙ of-shown k (q .tidy) v e .back)
 
   readable-means : {e : Entry} {x : Slot} → Means t e x → (v : ℕ) → readable t e v ≡ takes t x v
   readable-means (fixes e l) v = unfold readable takes in (rw e)
@@ -97,80 +111,57 @@ module _ (t : List ℕ) (ht : Fresh t) where
   Untouched s (Header k) = Unit {0}
   Untouched s (Word p k) = word s p ≡ word t p
 
-  module _ (s : List ℕ) (h : StoppedLike t s) {a : Attribute} {k : Kind} (l : Listed t a) (q : KindOf t (placeOf l) (shapeOf l) k) (v : ℕ)
+  module _ (s : List ℕ) (h : RestingLike t s) {a : Attribute} {k : Kind} (l : Listed t a) (q : KindOf t (placeOf l) (shapeOf l) k) (v : ℕ)
       (e : takes t (Word (placeOf l) k) v ≡ true) (old : word s (placeOf l) ≡ word t (placeOf l)) where
     abbrev p : ℕ
     p = placeOf l
 
-    inside : p < stateLength
-    inside = place-inside t rt l
-
     abbrev w : ℕ
     w = hidden k v
 
-    abbrev d : List ℕ
-    d = set t p w
-
-    abbrev f : List ℕ
-    f = set s p w
-
     rs : Ready s
-    rs = stopped-ready s (h .stopped)
+    rs = h .resting .is-ready
 
-    hd : StoppedLike t d
-    hd = with-word l q v e
+    -- the device with the put
+    abbrev f : List ℕ
+    f = withDerived (set s p w)
 
-    word-d : word d p ≡ w
-    word-d = getD-set-same t p w 0 (omega (arith, rt .size, inside))
-
-    word-f : word f p ≡ w
-    word-f = getD-set-same s p w 0 (omega (arith, rs .size, inside))
-
-    alike-ds : Alike d s
-    alike-ds = record {
-      same-count = h .alike .same-count ∙ sym (hd .alike .same-count);
-      same-number = h .alike .same-number ∙ sym (hd .alike .same-number);
-      same-affinities = λ u m. let n : u < vcpus t = rw (hd .alike .same-number) at m in h .alike .same-affinities u n ∙ sym (hd .alike .same-affinities u n);
-    }
-
-    mixed : Between d s f
-    mixed = rw word-d at (between-put d s s p inside (between-start d s (rs .size)))
-
-    stopped-f : Stopped f
-    stopped-f = mixed-stopped d s f (stopped-ready d (hd .stopped)) rs alike-ds mixed (hd .stopped) (h .stopped)
+    like-f : Stopped f × Alike t f
+    like-f = derived-like t (set s p w) (with-shown l q v e s h)
 
     alike-ft : Alike f t
-    alike-ft =
-        let m = mixed-alike d s f (stopped-ready d (hd .stopped)) rs alike-ds mixed in
-        record {
-          same-count = sym (m .same-count ∙ hd .alike .same-count);
-          same-number = sym (m .same-number ∙ hd .alike .same-number);
-          same-affinities = λ u n.
-              let o : u < vcpus d = rw (m .same-number) at n in
-              let g : u < vcpus t = rw (hd .alike .same-number) at o in
-              sym (m .same-affinities u o ∙ hd .alike .same-affinities u g);
-        }
+    alike-ft = alike-back t f (like-f .1)
 
-    -- each word here is that of the device with the put, or the target's
+    word-f : word f p ≡ w
+    word-f = shown-word l q v s rs
+
+    -- each word here is that device's, or the target's
     between : Between f t s
-    between = record { size = rs .size; each = λ i o. go i (ℕ-discrete i p) }
+    between = record {
+      size = rs .size;
+      each = λ i o core. go i core (ℕ-discrete i p);
+      range = λ i o derived. stands-alike f s i (word s i) same (stands s (ready-is-sound s rs) i o);
+    }
       where
-        go : (i : ℕ) → Dec (i ≡ p) → (word s i ≡ word f i) ⊎ (word s i ≡ word t i)
-        go i (yes z) = inr (rw z old)
-        go i (no z) = inl (sym (getD-set-other s p i w 0 z))
+        same : SameSetUp f s
+        same = record { same-mark = rs .mark ∙ sym (stopped-ready f (like-f .0) .mark); alike = alike-then f t s alike-ft (h .alike) }
+
+        go : (i : ℕ) → isDerived (roleOf i) ≡ false → Dec (i ≡ p) → (word s i ≡ word f i) ⊎ (word s i ≡ word t i)
+        go i core (yes z) = inr (rw z old)
+        go i core (no z) = inl (sym (with-word (set s p w) i core ∙ getD-set-other s p i w 0 z))
 
     put-word : itemWrite s (itemOf a s) v ≡ set s p w
     put-word =
         let cs = carried t s (h .alike) l in
-        let cf = carried t f (alike-back f t alike-ft) l in
+        let cf = carried t f (like-f .1) l in
         let names : itemOf a s ≡ namedBy (cf .there) = names-item s rs (cs .there) ∙ cs .names ∙ sym (cf .names) in
         let value : v ≡ places.shown (shapeOf (cf .there)) (word f (placeOf (cf .there))) =
         sym (of-shown k (q .tidy) v (unfold takes in e) .back) ∙ q .alike w ∙ (rw (cf .place, cf .shape, word-f)) in
-        let put = item-put f t stopped-f ht alike-ft s between (cf .there) in
+        let put = item-put f t (like-f .0) ht alike-ft s between (cf .there) in
         ap (λ (i : Item). itemWrite s i v) names ∙ ap (itemWrite s (namedBy (cf .there))) value ∙ put ∙ rw (cf .place, word-f)
 
-  put-means : (s : List ℕ) → StoppedLike t s → {e : Entry} {x : Slot} → Means t e x → Untouched s x → (v : ℕ) → takes t x v ≡ true
-      → (entryPut s e v ≡ slotPut s x v) × StoppedLike t (slotPut s x v)
+  put-means : (s : List ℕ) → RestingLike t s → {e : Entry} {x : Slot} → Means t e x → Untouched s x → (v : ℕ) → takes t x v ≡ true
+      → (entryPut s e v ≡ slotPut s x v) × RestingLike t (slotPut s x v)
   put-means s h (fixes e l) u v b = unfold entryPut slotPut in (refl, h)
   put-means s h (lists l q) u v b = unfold entryPut slotPut in (let z = put-word s h l q v b u in (z, rw z at (put-like t s h l v)))
 
@@ -216,22 +207,22 @@ module _ (t : List ℕ) (ht : Fresh t) where
 
   -- where the slots before the k-th were put
   record Put (k : ℕ) (s : List ℕ) : Type 0 where
-    like : StoppedLike t s
+    like : RestingLike t s
     rest : (j : ℕ) → k ≤ j → j < length xs → Untouched s (slotAt j)
 
   none-put : (y : Slot) → Untouched t y
   none-put (Header k) = tt
   none-put (Word p k) = refl
 
-  put-next : (k : ℕ) (s : List ℕ) (v : ℕ) → k < length xs → Put k s → StoppedLike t (slotPut s (slotAt k) v) → Put (suc k) (slotPut s (slotAt k) v)
+  put-next : (k : ℕ) (s : List ℕ) (v : ℕ) → k < length xs → Put k s → RestingLike t (slotPut s (slotAt k) v) → Put (suc k) (slotPut s (slotAt k) v)
   put-next k s v l h like = record {
     like = like;
     rest = λ j m n. untouched-put s (slotAt k) (slotAt j) v (slots-apart k j l n (λ e. omega arith)) (h .rest j (omega arith) n);
   }
 
   -- one value: taken by both or by neither, and what is left to load after it gives the same
-  load-one : {e : Entry} {x : Slot} → Means t e x → (es : List Entry) (ys : List Slot) (s : List ℕ) → StoppedLike t s → Untouched s x
-      → ((v : ℕ) (r : List ℕ) → StoppedLike t (slotPut s x v) → load t es r (slotPut s x v) ≡ loadSlots t ys r (slotPut s x v))
+  load-one : {e : Entry} {x : Slot} → Means t e x → (es : List Entry) (ys : List Slot) (s : List ℕ) → RestingLike t s → Untouched s x
+      → ((v : ℕ) (r : List ℕ) → RestingLike t (slotPut s x v) → load t es r (slotPut s x v) ≡ loadSlots t ys r (slotPut s x v))
       → (bytes : List ℕ) → load t (e ∷ es) bytes s ≡ loadSlots t (x ∷ ys) bytes s
   unfolding load loadSlots taking
   load-one {e} {x} m es ys s h u ih bytes = number (decodeNumber bytes)
@@ -268,4 +259,4 @@ module _ (t : List ℕ) (ht : Fresh t) where
 
   pub restored-slots : (bytes : List ℕ) → restored t bytes ≡ loadSlots t xs bytes t
   unfolding restored
-  restored-slots bytes = loads (length xs) 0 (omega arith) bytes t (record { like = like-itself t stop; rest = λ j l m. none-put (slotAt j) })
+  restored-slots bytes = loads (length xs) 0 (omega arith) bytes t (record { like = like-itself t at-rest; rest = λ j l m. none-put (slotAt j) })

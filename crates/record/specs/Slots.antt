@@ -9,10 +9,12 @@ use lib.ListN.{set}
 use Rattle.model.specs.Words.{each, spread}
 use Rattle.model.specs.Values.{gicdCtlrFixed, gicdCtlrBits, iccCtlrFixed, iccCtlrBits, version, flagBits, lastFlagBits, ppiBits, priorityBits, routeBits, statusrBits, pmrBits, bprBits, aprBits, oneBit}
 use Rattle.model.specs.Layout.{mostVcpus, word, count, vcpus, enablesAt, distributorStatusAt, affinity, block, frameStatusAt, leastBpr, lineField, priorityField, edgeField, routeAt}
-use Rattle.model.specs.Sound.{fits, stopped, fresh}
+use Rattle.model.specs.Sound.{fits, fresh}
 use Rattle.model.specs.Refusals.{Check, firstFailing}
 use Rattle.model.specs.Record.{spiWords, spis, encode, decodeNumber, Loaded, done, fault, taking, faults, restored, loadedState}
-use Rattle.model.specs.declared.Errno.the-variants.{Ebusy, Eexist, Einval, Ebadmsg}
+use Rattle.model.specs.Calls.{phase}
+use Rattle.model.specs.declared.Errno.the-variants.{Eexist, Einval, Ebadmsg}
+use Rattle.model.specs.declared.Phase.the-variants.{Stopped}
 use Rattle.model.specs.declared.Refusal.{Refusal}
 use Rattle.model.specs.declared.Answer.{Answer}
 use Rattle.model.specs.declared.Answer.the-variants.{Value, Refused}
@@ -148,7 +150,7 @@ loadSlots t (x ∷ xs) bytes s = taking (decodeNumber bytes) (λ v r. elim (take
 
 -- what restore asks of the device
 unfoldable pub deviceChecks : List ℕ → List Check
-deviceChecks s = (stopped s, Ebusy) ∷ (fresh s, Eexist) ∷ []
+deviceChecks s = phase Stopped s ∷ (fresh s, Eexist) ∷ []
 
 -- what a record is refused with
 unfoldable pub faultOf : Loaded → Refusal

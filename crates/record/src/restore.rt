@@ -2,12 +2,13 @@
 use crate::load::load_record;
 use model::Answer;
 use model::Errno;
+use model::Phase;
 use model::Refusal;
+use state::in_phase;
 use state::is_fresh;
 use state::is_sound;
-use state::is_stopped;
 ghost use mathlib.Core.Path.{_≡_};
-ghost use mathlib.Core.List.{_∷_};
+ghost use mathlib.Core.List.{[], _∷_};
 ghost use Rattle.model.specs.Sound.{sound};
 ghost use Rattle.model.specs.Refusals.{firstFailing, number};
 ghost use Rattle.model.specs.Calls.{Does, call, restore};
@@ -21,7 +22,7 @@ fn device_refusal(s: &[u32]) -> Refusal
     if !is_sound(s) {
         return Refusal::Refuse(Errno::Efault);
     }
-    if !is_stopped(s) {
+    if !in_phase(s, Phase::Stopped) {
         return Refusal::Refuse(Errno::Ebusy);
     }
     if !is_fresh(s) {
@@ -32,7 +33,7 @@ fn device_refusal(s: &[u32]) -> Refusal
 
 // Restores the device of a record into a fresh one of the same count and affinities: the record is judged whole, and then stored.
 pub fn restore_device(s: &mut [u32], bytes: &[u8]) -> Answer
-    ensures { λ r. ⌜ Does (call (restore (now (bytes .entry))) (now (s .entry))) (number r) (now (s .exit)) (now (bytes .entry)) ⌝ }
+    ensures { λ r. ⌜ Does (call (restore (now (bytes .entry))) (now (s .entry))) (number r) (now (s .exit)) (now (bytes .entry) ∷ []) ⌝ }
 {
     if let Refusal::Refuse(e) = device_refusal(s) {
         return Answer::Refused(e);

@@ -5,6 +5,7 @@ use crate::slots::header_at;
 use crate::slots::spi_count;
 use model::Answer;
 use model::Errno;
+use model::Phase;
 use model::layout::ACTIVE;
 use model::layout::BPR0;
 use model::layout::COUNT;
@@ -22,11 +23,12 @@ use model::values::GICD_CTLR_FIXED;
 use model::values::ICC_CTLR_FIXED;
 use state::VcpuIndex;
 use state::block_at;
+use state::in_phase;
 use state::is_sound;
-use state::is_stopped;
 use state::spi_bank_at;
 use words::config_of;
 ghost use mathlib.Core.Path.{_≡_};
+ghost use mathlib.Core.List.{[], _∷_};
 ghost use Prim.Native.Nat.{_+_, _≤_, _<_};
 ghost use lib.ListN.{length};
 ghost use Rattle.model.specs.Words.{each};
@@ -159,12 +161,12 @@ fn save_record(buf: &mut [u8], s: &[u32]) -> usize
 
 // Fills the front of a buffer with the record: 14 not sound; 16 not initialised or running; 28 no room. The answer is the record's length.
 pub fn fill(s: &[u32], buf: &mut [u8]) -> Answer
-    ensures { λ r. ⌜ Does (call (save (now (buf .entry))) (now (s .entry))) (number r) (now (s .entry)) (now (buf .exit)) × (frontLength r ≤ length (now (buf .exit))) ⌝ }
+    ensures { λ r. ⌜ Does (call (save (now (buf .entry))) (now (s .entry))) (number r) (now (s .entry)) (now (buf .exit) ∷ []) × (frontLength r ≤ length (now (buf .exit))) ⌝ }
 {
     if !is_sound(s) {
         return Answer::Refused(Errno::Efault);
     }
-    if !is_stopped(s) {
+    if !in_phase(s, Phase::Stopped) {
         return Answer::Refused(Errno::Ebusy);
     }
     if !has_room(s, buf.len()) {

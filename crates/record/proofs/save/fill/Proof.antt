@@ -11,7 +11,7 @@ has-room-requires c κs =
     let o = c .before in
     let a = o .before in
     let i = a .before in
-    asks-stopped _ _ _ (i .is-sound .ensures) (a .if1 .left) (o .is-stopped .ensures) (c .if2 .left)
+    asks-stopped _ _ _ (i .is-sound .ensures) (a .if1 .left) (o .in-phase .ensures) (c .if2 .left)
 
 returns-3 : tie.Need-returns-3
 returns-3 c =
@@ -20,7 +20,7 @@ returns-3 c =
     let o = b .before in
     let a = o .before in
     let i = a .before in
-    (fill-short _ _ _ (i .is-sound .ensures) (a .if1 .left) _ (o .is-stopped .ensures) (b .if2 .left) _ (r .has-room .ensures) (c .if3 .taken), omega arith)
+    (fill-short _ _ _ (i .is-sound .ensures) (a .if1 .left) _ (o .in-phase .ensures) (b .if2 .left) _ (r .has-room .ensures) (c .if3 .taken), omega arith)
 
 save-record-requires : tie.Need-save-record-requires
 save-record-requires c κs =
@@ -30,7 +30,7 @@ save-record-requires c κs =
     let o = b .before in
     let a = o .before in
     let i = a .before in
-    (asks-stopped _ _ _ (i .is-sound .ensures) (a .if1 .left) (o .is-stopped .ensures) (b .if2 .left), fill-room _ _ _ (r .has-room .ensures) (d .if3 .left))
+    (asks-stopped _ _ _ (i .is-sound .ensures) (a .if1 .left) (o .in-phase .ensures) (b .if2 .left), fill-room _ _ _ (r .has-room .ensures) (d .if3 .left))
 
 returns-4 : tie.Need-returns-4
 returns-4 c =
@@ -41,10 +41,10 @@ returns-4 c =
     let o = b .before in
     let a = o .before in
     let i = a .before in
-    (fill-done _ _ _ (i .is-sound .ensures) (a .if1 .left) _ (o .is-stopped .ensures) (b .if2 .left) _ (r .has-room .ensures) (d .if3 .left) _ _ (w .save-record .ensures .0), fill-within _ _ _ (r .has-room .ensures) (d .if3 .left) _ _ (w .save-record .ensures .0))
+    (fill-done _ _ _ (i .is-sound .ensures) (a .if1 .left) _ (o .in-phase .ensures) (b .if2 .left) _ (r .has-room .ensures) (d .if3 .left) _ _ (w .save-record .ensures .0), fill-within _ _ _ (r .has-room .ensures) (d .if3 .left) _ _ (w .save-record .ensures .0))
 
 pub fill-spec : {M : Type 1} → statement M
 fill-spec =
     tie.close
-    (tie.spec (λ c κs. search needs) (λ c. (search fill-unsound, omega arith)) (λ c κs. search inside) (λ c. (search fill-busy, omega arith))
+    (tie.spec (λ c κs. search needs) (λ c. (search fill-unsound, omega arith)) (λ c κs. (search inside, search inside)) (λ c. (search fill-busy, omega arith))
     has-room-requires returns-3 save-record-requires (λ c. search needs) (λ c. search needs) returns-4)
