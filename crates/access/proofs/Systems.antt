@@ -83,18 +83,18 @@ module _ (c : Call) (s : List ℕ) (a : acceptable c s ≡ sound s) (l : [] ≡ 
 
 module _ (v : ℕ) (s : List ℕ) (q : Refusal) (f : Phase) (p : q ≡ firstFailing ((sound s, Efault) ∷ guestChecks f v s)) where
   module _ (n : Errno) (h : q ≡ Refuse n) where
-    pub read-refused : (e : ℕ) → f ≡ readPhase (system e) → Does (call (readSystem v e) s) (number (Refused n)) s []
+    pub read-refused : (e : ℕ) (r : SystemRegister) → r ≡ system e → f ≡ readPhase r → Does (call (readSystem v e) s) (number (Refused n)) s []
     unfolding describe
-    read-refused e w = front-refused (readSystem v e) s refl refl refl (guestChecks (readPhase (system e)) v s) (readChecks (system e) v s) n refl (rw w at (sym p ∙ h))
+    read-refused e r k w = front-refused (readSystem v e) s refl refl refl (guestChecks (readPhase (system e)) v s) (readChecks (system e) v s) n refl (rw (w, k) at (sym p ∙ h))
 
     pub write-refused : (e x : ℕ) → f ≡ Changing → Does (call (writeSystem v e x) s) (number (Refused n)) s []
     unfolding describe
     write-refused e x w = front-refused (writeSystem v e x) s refl refl refl (guestChecks Changing v s) (writeChecks (system e)) n refl (rw w at (sym p ∙ h))
 
   module _ (h : q ≡ None) (r : SystemRegister) (a : Answer) (t : List ℕ) where
-    pub read-settled : (e : ℕ) → f ≡ readPhase (system e) → r ≡ system e → Reads r v s a t → Does (call (readSystem v e) s) (number a) t []
+    pub read-settled : (e : ℕ) → f ≡ readPhase r → r ≡ system e → Reads r v s a t → Does (call (readSystem v e) s) (number a) t []
     unfolding describe
-    read-settled e w k d = front-passed (readSystem v e) s refl refl refl (guestChecks (readPhase (system e)) v s) (readChecks (system e) v s) a t refl (rw w at (sym p ∙ h)) (rw k at d)
+    read-settled e w k d = front-passed (readSystem v e) s refl refl refl (guestChecks (readPhase (system e)) v s) (readChecks (system e) v s) a t refl (rw (w, k) at (sym p ∙ h)) (rw k at d)
 
     pub write-settled : (e x : ℕ) → f ≡ Changing → r ≡ system e → Writes r v x s a t → Does (call (writeSystem v e x) s) (number a) t []
     unfolding describe

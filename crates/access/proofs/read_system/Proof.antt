@@ -7,5 +7,5 @@ use Rattle.access.proofs.read_system.Tie as tie
 pub read-system-spec : {M : Type 1} → statement M
 read-system-spec =
     tie.close
-    (tie.spec (λ c κs. search needs) (λ c. search needs) (λ c. search needs) (λ c. search read-refused) (λ c. search needs)
-    (λ c κs. search needs) (λ c κs. search (guest-usable, encoding-group)) (λ c. search needs) (λ c. search read-settled))
+    (tie.spec (λ c κs. search needs) (λ c κs. search needs) (λ c κs. search needs) (λ c. search needs) (λ c. search needs) (λ c. search read-refused) (λ c. search needs)
+    (λ c κs. search (guest-usable, encoding-group)) (λ c. search needs) (λ c. search read-settled))
