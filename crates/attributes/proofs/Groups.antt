@@ -8,7 +8,7 @@ use lib.IntN.{ℤ}
 use Rattle.model.specs.Sound.{sound}
 use Rattle.model.specs.Refusals.{firstFailing, number}
 use Rattle.model.specs.Attributes.{groupOf}
-use Rattle.model.specs.Calls.{Call, Does, call, getAttribute, setAttribute, lentTo, getChecks, setChecks, refusal, settle, value, next, describe}
+use Rattle.model.specs.Calls.{Call, Does, call, getAttribute, setAttribute, lentTo, filled, getChecks, setChecks, refusal, settle, value, nextCore, describe}
 use Rattle.model.specs.declared.Errno.{Errno}
 use Rattle.model.specs.declared.Errno.the-variants.{Efault, Enxio}
 use Rattle.model.specs.declared.Refusal.{Refusal}
@@ -45,27 +45,27 @@ initialise-number = refl
 
 -- ---- a call does what that of another number does which means the same group
 
-alike : (c d : Call) (s : List ℕ) → refusal c s ≡ refusal d s → value c s ≡ value d s → next c s ≡ next d s → lentTo c ≡ lentTo d → call c s ≡ call d s
+alike : (c d : Call) (s : List ℕ) → refusal c s ≡ refusal d s → value c s ≡ value d s → nextCore c s ≡ nextCore d s → lentTo c s ≡ lentTo d s → filled c s ≡ filled d s → call c s ≡ call d s
 unfolding call
-alike c d s r v n l = rw r (step (refusal d s))
+alike c d s r v n l f = rw r (step (refusal d s))
   where
     step : (f : Refusal) → settle f c s ≡ settle f d s
-    step None = unfold settle in (rw (v, n, l))
+    step None = unfold settle in (rw (v, n, f))
     step (Refuse e) = unfold settle in (rw l)
 
-module _ (d k : AttributeGroup) (g n a : ℕ) (s : List ℕ) (r : ℤ) (t b : List ℕ) (e : d ≡ groupOf g) (h : d ≡ k) (m : k ≡ groupOf n) where
+module _ (d k : AttributeGroup) (g n a : ℕ) (s : List ℕ) (r : ℤ) (t : List ℕ) (b : List (List ℕ)) (e : d ≡ groupOf g) (h : d ≡ k) (m : k ≡ groupOf n) where
   same : groupOf g ≡ groupOf n
   same = sym e ∙ h ∙ m
 
   pub get-alike : Does (call (getAttribute n a) s) r t b → Does (call (getAttribute g a) s) r t b
   unfolding describe
   get-alike c =
-      rw (alike (getAttribute g a) (getAttribute n a) s (rw (refusal-list (getAttribute g a) s, refusal-list (getAttribute n a) s, same)) (rw same) refl refl) c
+      rw (alike (getAttribute g a) (getAttribute n a) s (rw (refusal-list (getAttribute g a) s, refusal-list (getAttribute n a) s, same)) (rw same) refl refl refl) c
 
   pub set-alike : (x : ℕ) → Does (call (setAttribute n a x) s) r t b → Does (call (setAttribute g a x) s) r t b
   unfolding describe
   set-alike x c =
-      rw (alike (setAttribute g a x) (setAttribute n a x) s (rw (refusal-list (setAttribute g a x) s, refusal-list (setAttribute n a x) s, same)) refl (rw same) refl) c
+      rw (alike (setAttribute g a x) (setAttribute n a x) s (rw (refusal-list (setAttribute g a x) s, refusal-list (setAttribute n a x) s, same)) refl (rw same) refl refl) c
 
 -- ---- an unknown group
 

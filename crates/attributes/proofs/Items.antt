@@ -1,17 +1,19 @@
 -- What an attribute names, read and written, and the values that it takes.
-use Prim.Native.Nat.{ℕ, _^_, _<_}
+use Prim.Native.Nat.{ℕ, _-_, _^_, _≤_, _<_}
 use mathlib.Core.Path.{_≡_, refl}
-use mathlib.Core.Bool.{Bool, true, _&&_}
+use mathlib.Core.Bool.{Bool, true, false, _&&_}
 use mathlib.Core.List.{List, [], _∷_}
-use borrow.Author.Tests.{ltb-true}
+use native.Mathlib.Omega.{arith}
+use borrow.Author.Tests.{ltb-true, le-leb, lt-leb}
 use types.Run.{OneOf, miss}
 use denote.Enum.Declared.{tagOf}
 use lib.Dec.{ltb}
 use lib.ListN.{length}
 use mir.Syntax.{w32}
 use mir.Val.{Fits}
+use Rattle.model.specs.Values.{iccCtlrFixed, iccCtlrBits}
 use Rattle.model.specs.Layout.{stateLength, mostVcpus}
-use Rattle.model.specs.Sound.{sound}
+use Rattle.model.specs.Sound.{fits, sound}
 use Rattle.model.specs.Registers.{wordsOf, seenBy, read, write}
 use Rattle.model.specs.Interface.{plainGroup, plainRead, plainWrite, plainTakes}
 use Rattle.model.specs.Attributes.{registerTakes, takes, itemRead, itemWrite}
@@ -26,6 +28,7 @@ use Rattle.model.specs.declared.Item.the-variants.{Mapped, System, Nameless}
 use Rattle.model.proofs.Register as register
 use Rattle.model.proofs.Plain as plain
 use Rattle.model.proofs.Tests.{both}
+use Rattle.model.proofs.Within.{fits-le}
 use Rattle.priority.specs.Asked.{Usable}
 use Rattle.attributes.specs.Names.{Within}
 
@@ -89,31 +92,31 @@ module _ (i : Item) where
       pub word-number : k < wordsOf x r
       word-number = the-word .2
 
-  module _ (v : ℕ) (p : Plain) (e : i ≡ System v p) where
+  module _ (y : View) (p : Plain) (e : i ≡ System y p) where
     pub system-takes : (x : ℕ) (t : Bool) → t ≡ plainTakes p x → t ≡ takes i x
     unfolding takes
     system-takes x t h = rw e h
 
-    pub system-read : (s : List ℕ) (w : ℕ) → w ≡ plainRead s v p → w ≡ itemRead s i
+    pub system-read : (s : List ℕ) (v w : ℕ) → v ≡ seenBy y → w ≡ plainRead Attribute s v p → w ≡ itemRead s i
     unfolding itemRead
-    system-read s w h = rw e h
+    system-read s v w q h = rw (e, ← q) h
 
-    pub system-written : (s t : List ℕ) (x : ℕ) → t ≡ plainWrite s v p x → t ≡ itemWrite s i x
+    pub system-written : (s t : List ℕ) (v x : ℕ) → v ≡ seenBy y → t ≡ plainWrite Attribute s v p x → t ≡ itemWrite s i x
     unfolding itemWrite
-    system-written s t x h = rw e h
+    system-written s t v x q h = rw (e, ← q) h
 
     module _ (s : List ℕ) (w : Within s i) where
-      the-system : Usable s v × (plainGroup p < 2)
+      the-system : Usable s (seenBy y) × (plainGroup p < 2)
       the-system = rw e at w
 
-      pub system-usable : Usable s v
-      system-usable = the-system .0
+      pub system-usable : (v : ℕ) → v ≡ seenBy y → Usable s v
+      system-usable v q = rw q (the-system .0)
 
       pub system-size : length s ≡ stateLength
       system-size = the-system .0 .size
 
-      pub system-index : v < mostVcpus
-      system-index = the-system .0 .index
+      pub system-index : (v : ℕ) → v ≡ seenBy y → v < mostVcpus
+      system-index v q = system-usable v q .index
 
       pub system-plain : plainGroup p < 2
       system-plain = the-system .1
@@ -130,6 +133,27 @@ module _ (i : Item) where
     pub none-written : (s : List ℕ) (x : ℕ) → s ≡ itemWrite s i x
     unfolding itemWrite
     none-written s x = rw e
+
+-- CTLR: below its fixed bits, too large for a word, or with some of the bits that it keeps
+module _ (x : ℕ) where
+  pub control-low : x < iccCtlrFixed → false ≡ plainTakes Ctlr x
+  unfolding plainTakes
+  control-low l = rw (lt-leb iccCtlrFixed x l)
+
+  pub control-large : iccCtlrFixed ≤ x → 2 ^ 32 ≤ x → false ≡ plainTakes Ctlr x
+  unfolding plainTakes
+  control-large l m = rw (le-leb iccCtlrFixed x l) (step (fits (x - iccCtlrFixed) iccCtlrBits) refl)
+    where
+      step : (t : Bool) → fits (x - iccCtlrFixed) iccCtlrBits ≡ t → false ≡ t
+      step true e = absurd (omega (arith, fits-le (x - iccCtlrFixed) iccCtlrBits e))
+      step false e = refl
+
+  pub control-within : (r : Bool) → iccCtlrFixed ≤ x → r ≡ fits (x - iccCtlrFixed) iccCtlrBits → r ≡ plainTakes Ctlr x
+  unfolding plainTakes
+  control-within r l h = rw (le-leb iccCtlrFixed x l) h
+
+pub plain-control : (p : Plain) (x : ℕ) (r : Bool) → p ≡ Ctlr → r ≡ plainTakes Ctlr x → r ≡ plainTakes p x
+plain-control p x r e h = rw e h
 
 -- `search asked` finds what the functions below ask, `search taking`, `search reading` and `search writing` what is done by them
 pub ruleset asked = (value-fits, word-sound, word-view, word-number, system-usable, system-size, system-index, system-plain)

@@ -4,10 +4,12 @@ use mathlib.Core.Path.{_≡_, refl, sym, _∙_}
 use mathlib.Core.Bool.{Bool, true, false, not}
 use mathlib.Core.List.{List, [], _∷_, _++_}
 use native.Mathlib.Omega.{arith}
-use Rattle.model.specs.Sound.{sound, stopped}
+use Rattle.model.specs.Sound.{sound}
 use Rattle.model.specs.Refusals.{Check, firstFailing}
 use Rattle.model.specs.Attributes.{groupOf, low, numberOk, affinityKnown, item, known, takes, itemRead, itemWrite}
-use Rattle.model.specs.Calls.{getAttribute, setAttribute, registerChecks, getChecks, setChecks, refusal, getValue, value, setState, next, describe}
+use Rattle.model.specs.Calls.{getAttribute, setAttribute, registerChecks, getChecks, setChecks, refusal, getValue, value, setState, describe, nextCore, inPhase}
+use Rattle.model.specs.declared.Phase.the-variants.{Stopped}
+use Rattle.model.proofs.Kept.{in-phase}
 use Rattle.model.specs.declared.Errno.{Errno}
 use Rattle.model.specs.declared.Errno.the-variants.{Efault, Einval}
 use Rattle.model.specs.declared.Refusal.{Refusal}
@@ -69,11 +71,11 @@ module _ (q : RegisterGroup) (a : ℕ) (s : List ℕ) where
 
       -- all tests hold
       pub is-named : (sb nb st : Bool) → sb ≡ sound s → not sb ≡ false → nb ≡ numberOk q a → not nb ≡ false
-          → st ≡ stopped s → not st ≡ false → not kb ≡ false → Is i ≡ itemNamed q a s
+          → st ≡ inPhase Stopped s → not st ≡ false → not kb ≡ false → Is i ≡ itemNamed q a s
       unfolding itemNamed namedBy registerChecks
       is-named sb nb st s1 s2 n1 n2 t1 t2 u =
           let none : firstFailing tested ≡ None =
-          none-of tested (told-yes (sound s) sb s1 s2, (told-yes (numberOk q a) nb n1 n2, (place-there, (told-yes (stopped s) st t1 t2, (rw its-item (told-yes (known i) kb k u), tt))))) in
+          none-of tested (told-yes (sound s) sb s1 s2, (told-yes (numberOk q a) nb n1 n2, (place-there, (told-yes (inPhase Stopped s) st t1 t2, (rw its-item (told-yes (known i) kb k u), tt))))) in
           rw (none, its-item)
 
   -- ---- by what is named, a get and a set
@@ -104,12 +106,12 @@ module _ (q : RegisterGroup) (a : ℕ) (s : List ℕ) where
 
       -- what a function below asks of a state t that is s
       pub named-within : (t : List ℕ) → t ≡ s → Within t i
-      unfolding registerChecks stopped
+      unfolding registerChecks
       named-within t c =
           let p = passed tested (opened .0) in
           let x = stands q a s (p .1 .1 .0) in
           let y = placed q a s (x .0) (x .1) in
-          rw (c, ← opened .1, y .is-item) (y .within (p .0) (both _ _ (p .1 .1 .1 .0) .0) (p .1 .0))
+          rw (c, ← opened .1, y .is-item) (y .within (p .0) (in-phase Stopped s (p .1 .1 .1 .0)) (p .1 .0))
 
       pub get-granted : None ≡ refusal (getAttribute (groupNumber q) a) s
       get-granted = sym (get-list ∙ opened .0)
@@ -130,7 +132,7 @@ module _ (q : RegisterGroup) (a : ℕ) (s : List ℕ) where
         unfolding firstFailing
         set-granted n = sym (last ∙ rw (told-yes (takes i v) t g n))
 
-      pub set-next : (v : ℕ) (t : List ℕ) → t ≡ itemWrite s i v → t ≡ next (setAttribute (groupNumber q) a v) s
+      pub set-next : (v : ℕ) (t : List ℕ) → t ≡ itemWrite s i v → t ≡ nextCore (setAttribute (groupNumber q) a v) s
       unfolding describe setState
       set-next v t p = rw (group-of q, opened .1) p
 

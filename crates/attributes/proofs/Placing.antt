@@ -36,7 +36,7 @@ use Rattle.state.specs.declared.lookup.Found.{Found}
 use Rattle.state.specs.declared.lookup.Found.the-variants.{At, Nowhere}
 use Rattle.priority.specs.Asked.{Usable}
 use Rattle.priority.proofs.Usable.{usable}
-use Rattle.attributes.specs.Names.{frameWith, placeOf, systemAt, itemAt, Within}
+use Rattle.attributes.specs.Names.{frameWith, placeOf, itemAt, Within}
 use Rattle.attributes.specs.declared.Place.{Place}
 use Rattle.attributes.specs.declared.Place.the-variants.{In, NoVcpu}
 
@@ -92,30 +92,22 @@ module _ (x : View) (n : ℕ) where
 
 pub ruleset words = (unaligned, listed, unlisted)
 
--- group 6: the distributor has no system register; a register that a guest only reads or only writes is not named
-pub no-vcpu : (x : View) (n : ℕ) → x ≡ view.Distributor → Nameless ≡ systemAt x n
-unfolding systemAt
-no-vcpu x n h = rw h
-
-module _ (x : View) (n v : ℕ) (r : SystemRegister) (h : x ≡ view.Frame v) (e : r ≡ system n) where
-  of-register : systemAt x n ≡ systemItem v r
-  unfolding systemAt
-  of-register = rw (h, e)
-
-  pub plain-named : (p : Plain) → r ≡ Both p → System v p ≡ systemAt x n
+-- group 6: a register that a guest only reads or only writes is not named
+module _ (x : View) (n : ℕ) (r : SystemRegister) (e : r ≡ system n) where
+  pub plain-named : (p : Plain) → r ≡ Both p → System x p ≡ systemItem x (system n)
   unfolding systemItem
-  plain-named p q = rw (of-register, q)
+  plain-named p q = rw (← e, q)
 
-  pub not-plain : OneOf (1 ∷ 2 ∷ 3 ∷ []) (tagOf the-type r) → Nameless ≡ systemAt x n
-  not-plain o = rw of-register (go r o)
+  pub not-plain : OneOf (1 ∷ 2 ∷ 3 ∷ []) (tagOf the-type r) → Nameless ≡ systemItem x (system n)
+  not-plain o = rw (← e) (go r o)
     where
-      go : (r : SystemRegister) → OneOf (1 ∷ 2 ∷ 3 ∷ []) (tagOf the-type r) → Nameless ≡ systemItem v r
+      go : (r : SystemRegister) → OneOf (1 ∷ 2 ∷ 3 ∷ []) (tagOf the-type r) → Nameless ≡ systemItem x r
       go (Both p) o = absurd (miss (1 ∷ 2 ∷ 3 ∷ []) 0 tt o)
       go (Read q) o = unfold systemItem in refl
       go (Write w) o = unfold systemItem in refl
       go Unnamed o = unfold systemItem in refl
 
-pub ruleset systems = (no-vcpu, plain-named, not-plain)
+pub ruleset systems = (plain-named, not-plain)
 
 -- ---- the functions that read and write may be given what is named
 
@@ -128,10 +120,10 @@ mapped-within s x n h l = step (eqb (n % 4) 0) (decode (rows x) n) refl
     step true Unlisted e = unfold mappedItem in tt
     step false d e = tt
 
-system-within : (s : List ℕ) (v n : ℕ) → Usable s v → Within s (systemItem v (system n))
-system-within s v n u = step (system n) (system-group n)
+system-within : (s : List ℕ) (x : View) (n : ℕ) → Usable s (seenBy x) → Within s (systemItem x (system n))
+system-within s x n u = step (system n) (system-group n)
   where
-    step : (r : SystemRegister) → groupIn r < 2 → Within s (systemItem v r)
+    step : (r : SystemRegister) → groupIn r < 2 → Within s (systemItem x r)
     step (Both p) l = unfold systemItem in (u, l)
     step (Read q) l = unfold systemItem in tt
     step (Write w) l = unfold systemItem in tt
@@ -194,7 +186,7 @@ of-lines a s x e = step (ltb (low a) 32) refl e
         })
 
 pub placed : (q : RegisterGroup) (a : ℕ) (s : List ℕ) (x : View) → placeOf q a s ≡ In x → Placed q a s x
-unfolding placeOf affinityKnown item itemAt systemAt
+unfolding placeOf affinityKnown item itemAt
 placed Distributor a s x e =
     let y : view.Distributor ≡ x = cc in
     rw (← y) (record {
@@ -214,7 +206,7 @@ placed Interface a s x e =
     rw (← f .1) (record {
       is-known = f .0;
       is-item = refl;
-      within = λ h i n. system-within s (indexOf s (high a)) (low a) (usable s (indexOf s (high a)) h i (f .0));
+      within = λ h i n. system-within s (view.Frame (indexOf s (high a))) (low a) (unfold seenBy in (usable s (indexOf s (high a)) h i (f .0)));
     })
 placed Lines a s x e = of-lines a s x e
 

@@ -49,14 +49,10 @@ placeOf Lines a s = cond (ltb (low a) 32) (frameWith s (high a)) (In view.Distri
 
 -- ---- what a number names there: group 6 a system register of the vCPU whose frame it is; group 7 has 32 lines a word
 
-unfoldable pub systemAt : View → ℕ → Item
-systemAt view.Distributor n = Nameless
-systemAt (view.Frame v) n = systemItem v (system n)
-
 unfoldable pub itemAt : RegisterGroup → View → ℕ → Item
 itemAt Distributor x n = mapped x n
 itemAt Redistributor x n = mapped x n
-itemAt Interface x n = systemAt x n
+itemAt Interface x n = systemItem x (system n)
 itemAt Lines x n = Mapped x (Bits flags.Lines) (n / 32)
 
 -- ---- what an attribute names, where a get of it is not refused
@@ -72,5 +68,5 @@ itemNamed q a s = namedBy (firstFailing ((sound s, Efault) ∷ registerChecks q 
 
 abbrev pub Within : List ℕ → Item → Type 0
 Within s (Mapped x r k) = (sound s ≡ true) × (seenBy x < mostVcpus) × (k < wordsOf x r)
-Within s (System v p) = Usable s v × (plainGroup p < 2)
+Within s (System x p) = Usable s (seenBy x) × (plainGroup p < 2)
 Within s Nameless = Unit {0}

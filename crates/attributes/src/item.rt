@@ -3,17 +3,23 @@ use model::By;
 use model::Item;
 use model::Plain;
 use model::Register;
+use model::values::ICC_CTLR_BITS;
+use model::values::ICC_CTLR_FIXED;
+use model::values::ICC_SRE;
+use model::values::IIDR;
 use registers::read_word;
+use registers::seen_by;
 use registers::write_word;
-use state::VcpuIndex;
 use system::plain::read_plain;
 use system::plain::write_plain;
+use words::is_within;
 ghost use mathlib.Core.Path.{_≡_};
 ghost use mathlib.Core.Bool.{true, _&&_};
 ghost use Prim.Native.Nat.{_^_};
 ghost use lib.Dec.{ltb};
 ghost use Rattle.model.specs.Interface.{plainTakes};
 ghost use Rattle.model.specs.Attributes.{registerTakes, takes, itemRead, itemWrite};
+ghost use Rattle.model.specs.declared.Plain.the-variants.{Ctlr};
 ghost use Rattle.attributes.specs.Names.{Within};
 
 // ---- values
@@ -23,9 +29,23 @@ fn register_takes(register: Register, value: u64) -> bool
     ensures { λ r. ⌜ r ≡ registerTakes register value ⌝ }
 {
     match register {
-        Register::Iidr => value == 0x0100_1000,
+        Register::Iidr => value == IIDR as u64,
         _ => true,
     }
+}
+
+// CTLR takes its fixed bits with any of those that it keeps.
+fn control_takes(value: u64) -> bool
+    ensures { λ r. ⌜ r ≡ plainTakes Ctlr value ⌝ }
+{
+    let fixed = ICC_CTLR_FIXED as u64;
+    if value < fixed {
+        return false;
+    }
+    if value >= 0x1_0000_0000 {
+        return false;
+    }
+    is_within((value - fixed) as u32, ICC_CTLR_BITS)
 }
 
 // CTLR and SRE take a value that they may read.
@@ -33,8 +53,8 @@ fn plain_takes(register: Plain, value: u64) -> bool
     ensures { λ r. ⌜ r ≡ plainTakes register value ⌝ }
 {
     match register {
-        Plain::Ctlr => (value == 0x400) | (value == 0x402),
-        Plain::Sre => value == 7,
+        Plain::Ctlr => control_takes(value),
+        Plain::Sre => value == ICC_SRE as u64,
         _ => true,
     }
 }
@@ -66,7 +86,7 @@ pub fn read_item(s: &[u32], item: Item) -> u32
 {
     match item {
         Item::Mapped(view, register, k) => read_word(s, By::Attribute, view, register, k),
-        Item::System(v, register) => read_plain(s, VcpuIndex(v), register),
+        Item::System(view, register) => read_plain(s, By::Attribute, seen_by(view), register),
         Item::Nameless => 0,
     }
 }
@@ -80,7 +100,9 @@ pub fn write_item(s: &mut [u32], item: Item, value: u64)
         Item::Mapped(view, register, k) => {
             write_word(s, By::Attribute, view, register, k, value as u32)
         }
-        Item::System(v, register) => write_plain(s, VcpuIndex(v), register, value),
+        Item::System(view, register) => {
+            write_plain(s, By::Attribute, seen_by(view), register, value)
+        }
         Item::Nameless => {}
     }
 }

@@ -5,6 +5,7 @@ use model::Decoded;
 use model::Errno;
 use model::Flags;
 use model::Item;
+use model::Phase;
 use model::Register;
 use model::RegisterGroup;
 use model::SystemRegister;
@@ -13,17 +14,18 @@ use registers::decode::register_at;
 use registers::frame_view;
 use state::Found;
 use state::Mpidr;
+use state::in_phase;
 use state::index_of;
 use state::is_sound;
-use state::is_stopped;
 use system::decode::register_of;
 ghost use mathlib.Core.Path.{_≡_};
 ghost use Prim.Native.Nat.{_≤_};
 ghost use lib.ListN.{length};
 ghost use Rattle.model.specs.Layout.{stateLength, mostVcpus, vcpus};
-ghost use Rattle.model.specs.Attributes.{high, low, numberOk, mapped, known};
+ghost use Rattle.model.specs.Interface.{system};
+ghost use Rattle.model.specs.Attributes.{high, low, numberOk, mapped, systemItem, known};
 ghost use Rattle.model.specs.declared.RegisterGroup.the-variants.{Lines};
-ghost use Rattle.attributes.specs.Names.{frameWith, placeOf, systemAt, itemAt, itemNamed};
+ghost use Rattle.attributes.specs.Names.{frameWith, placeOf, itemAt, itemNamed};
 
 // ---- the parts of an attribute's number
 
@@ -108,15 +110,12 @@ fn mapped_at(view: View, number: u64) -> Item
 
 // Group 6: a register that guests read and write, of a vCPU.
 fn system_at(view: View, number: u64) -> Item
-    ensures { λ r. ⌜ r ≡ systemAt view number ⌝ }
+    ensures { λ r. ⌜ r ≡ systemItem view (system number) ⌝ }
 {
-    let View::Frame(v) = view else {
-        return Item::Nameless;
-    };
     let SystemRegister::Both(register) = register_of(number) else {
         return Item::Nameless;
     };
-    Item::System(v, register)
+    Item::System(view, register)
 }
 
 // Group 7 has 32 lines a word.
@@ -146,7 +145,7 @@ fn is_known(item: Item) -> bool
     }
 }
 
-// 14 not sound; 22 bad number; 22 no such affinity; 16 not initialised or running; 6 unknown register.
+// 14 not sound; 22 bad number; 22 no such affinity; 16 another phase; 6 unknown register.
 pub fn item_named(s: &[u32], q: RegisterGroup, attribute: u64) -> Named
     ensures { λ r. ⌜ r ≡ itemNamed q attribute (now (s .entry)) ⌝ }
 {
@@ -159,7 +158,7 @@ pub fn item_named(s: &[u32], q: RegisterGroup, attribute: u64) -> Named
     let Place::In(view) = place_of(s, q, attribute) else {
         return Named::Not(Errno::Einval);
     };
-    if !is_stopped(s) {
+    if !in_phase(s, Phase::Stopped) {
         return Named::Not(Errno::Ebusy);
     }
     let item = item_at(q, view, low_part(attribute));

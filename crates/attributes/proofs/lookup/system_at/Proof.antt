@@ -7,5 +7,4 @@ use Rattle.attributes.proofs.lookup.system_at.Tie as tie
 pub system-at-spec : {M : Type 1} → statement M
 system-at-spec =
     tie.close
-    (tie.spec (λ c. search needs) (λ c. search needs) (λ c. search systems) (λ c κs. search needs) (λ c. search needs) (λ c. search systems)
-    (λ c. search systems))
+    (tie.spec (λ c κs. search needs) (λ c. search needs) (λ c. search systems) (λ c. search systems))
