@@ -1,7 +1,7 @@
 -- The front part of its buffer that save hands back.
 use Prim.Native.Nat.{ℕ, zero, suc, _≤_, _<_}
 use mathlib.Core.Path.{_≡_, refl, sym, _∙_}
-use mathlib.Core.List.{List, []}
+use mathlib.Core.List.{List, [], _∷_}
 use native.Mathlib.Omega.{arith}
 use lib.IntN.{ℤ, pos, negℤ}
 use lib.ListN.{length, take}
@@ -30,11 +30,11 @@ front-is : (a : Answer) (b : List ℕ) → take (frontLength a) b ≡ frontOf (n
 front-is (Value v) b = unfold frontOf number in refl
 front-is (Refused e) b = unfold number in (sym (empty-front (errno e) b (errno-positive e)))
 
-pub front-handed : (o : Outcome) (a : Answer) (r : ℤ) (t b : List ℕ) (n : ℕ) → Does o (number a) t b → r ≡ number a → SFits w64 r → n ≡ frontLength a
+pub front-handed : (o : Outcome) (a : Answer) (r : ℤ) (t b : List ℕ) (n : ℕ) → Does o (number a) t (b ∷ []) → r ≡ number a → SFits w64 r → n ≡ frontLength a
     → Saves o (toZ w64 (ofZ w64 r)) t (take n b)
 unfolding handedBack
 front-handed o a r t b n d e f h = record {
   answer = toZ-ofZ f ∙ e ∙ d .answer;
   state = d .state;
-  front-part = rw (h, ← d .answer, ← d .buffer) (front-is a b);
+  front-part = rw (h, ← d .answer, ← d .buffers) (front-is a b);
 }

@@ -11,7 +11,7 @@ use Rattle.model.specs.Refusals.{number}
 use Rattle.model.specs.Calls.{Outcome, Does}
 use Rattle.model.specs.declared.Answer.{Answer}
 
-pub handed-on : (o : Outcome) (a : Answer) (r : ℤ) (t b : List ℕ) → Does o (number a) t b → r ≡ number a → SFits w64 r → Does o (toZ w64 (ofZ w64 r)) t b
-handed-on o a r t b d e f = record { answer = toZ-ofZ f ∙ e ∙ d .answer; state = d .state; buffer = d .buffer }
+pub handed-on : (o : Outcome) (a : Answer) (r : ℤ) (t : List ℕ) (bs : List (List ℕ)) → Does o (number a) t bs → r ≡ number a → SFits w64 r → Does o (toZ w64 (ofZ w64 r)) t bs
+handed-on o a r t bs d e f = record { answer = toZ-ofZ f ∙ e ∙ d .answer; state = d .state; buffers = d .buffers }
 
 pub ruleset public = (handed-on, sfits-of)

@@ -5,7 +5,7 @@ use record::save::front_length;
 use state::Mpidr;
 use state::VcpuIndex;
 ghost use mathlib.Core.Path.{_≡_};
-ghost use mathlib.Core.List.{[]};
+ghost use mathlib.Core.List.{[], _∷_};
 ghost use lib.IntN.{natAbs};
 ghost use Rattle.model.specs.Refusals.{errno, number};
 ghost use Rattle.model.specs.Calls.{Does, call, make, addVcpu, setRunning, changeLine, readDistributor, writeDistributor, readFrame, writeFrame, readSystem, writeSystem, querySignal, getAttribute, setAttribute, save, restore, Saves};
@@ -163,7 +163,7 @@ pub fn set_attribute(state: &mut [u32], group: u64, attribute: u64, value: u64) 
 
 // Fills the front of a buffer with the record, whose length is the answer; the rest keeps its bytes, and a refusal changes none.
 pub fn fill(state: &[u32], buf: &mut [u8]) -> i64
-    ensures { λ r. ⌜ Does (call (save (now (buf .entry))) (now (state .entry))) r (now (state .entry)) (now (buf .exit)) ⌝ }
+    ensures { λ r. ⌜ Does (call (save (now (buf .entry))) (now (state .entry))) r (now (state .entry)) (now (buf .exit) ∷ []) ⌝ }
 {
     number_of(record::save::fill(state, buf))
 }
@@ -179,7 +179,7 @@ pub fn save<'a>(state: &[u32], buf: &'a mut [u8], result: &mut i64) -> &'a mut [
 
 // Restores the device of a record into a fresh one of the same count and affinities.
 pub fn restore(state: &mut [u32], bytes: &[u8]) -> i64
-    ensures { λ r. ⌜ Does (call (restore (now (bytes .entry))) (now (state .entry))) r (now (state .exit)) (now (bytes .entry)) ⌝ }
+    ensures { λ r. ⌜ Does (call (restore (now (bytes .entry))) (now (state .entry))) r (now (state .exit)) (now (bytes .entry) ∷ []) ⌝ }
 {
     number_of(record::restore::restore_device(state, bytes))
 }

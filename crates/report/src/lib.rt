@@ -1,4 +1,5 @@
 // What the programs of cases print: texts, numbers, answers, and words of the state.
+use calls::magnitude;
 use libc::STDOUT_FILENO;
 
 pub fn say(text: &[u8]) {
@@ -20,11 +21,10 @@ pub fn say_hex(n: u64) {
 pub fn say_signed(r: i64) {
     if r < 0 {
         say(b" -");
-        say_decimal((-1 - r) as u64 + 1);
     } else {
         say(b" ");
-        say_decimal(r as u64);
     }
+    say_decimal(magnitude(r));
 }
 
 // A space, and the answer: what is read in hex, or the refusal in decimal.
@@ -32,7 +32,7 @@ pub fn say_answer(r: i64) {
     if r < 0 {
         say_signed(r);
     } else {
-        say_hex(r as u64);
+        say_hex(magnitude(r));
     }
 }
 

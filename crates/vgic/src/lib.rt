@@ -1,7 +1,7 @@
 // The public calls for C: numbers and slices only. Each hands on to the function of `calls` that has its name, `vgic_save` to `fill`, and promises the same: `Does` of its case of `call`.
 use state::Mpidr;
 use state::VcpuIndex;
-ghost use mathlib.Core.List.{[]};
+ghost use mathlib.Core.List.{[], _∷_};
 ghost use Rattle.model.specs.Calls.{Does, call, make, addVcpu, setRunning, changeLine, readDistributor, writeDistributor, readFrame, writeFrame, readSystem, writeSystem, querySignal, getAttribute, setAttribute, save, restore};
 
 // ---- the calls that set a device up
@@ -147,7 +147,7 @@ pub extern "C" fn vgic_set_attribute(
 // Leaves the record at the front of a buffer, and its length or the refusal in `result`; the rest of the buffer keeps its bytes, and a refusal changes none.
 #[no_mangle]
 pub extern "C" fn vgic_save(state: &[u32], buf: &mut [u8], result: &mut i64)
-    ensures { λ _. ⌜ Does (call (save (now (buf .entry))) (now (state .entry))) (now (result .exit)) (now (state .entry)) (now (buf .exit)) ⌝ }
+    ensures { λ _. ⌜ Does (call (save (now (buf .entry))) (now (state .entry))) (now (result .exit)) (now (state .entry)) (now (buf .exit) ∷ []) ⌝ }
 {
     *result = calls::fill(state, buf);
 }
@@ -155,7 +155,7 @@ pub extern "C" fn vgic_save(state: &[u32], buf: &mut [u8], result: &mut i64)
 // Restores the device of a record into a fresh one of the same count and affinities.
 #[no_mangle]
 pub extern "C" fn vgic_restore(state: &mut [u32], bytes: &[u8]) -> i64
-    ensures { λ r. ⌜ Does (call (restore (now (bytes .entry))) (now (state .entry))) r (now (state .exit)) (now (bytes .entry)) ⌝ }
+    ensures { λ r. ⌜ Does (call (restore (now (bytes .entry))) (now (state .entry))) r (now (state .exit)) (now (bytes .entry) ∷ []) ⌝ }
 {
     calls::restore(state, bytes)
 }

@@ -1,2 +1,0 @@
--- The laws of a signed number that is printed.
-pub mod Signed
