@@ -7,6 +7,7 @@ use mathlib.Core.List.{List}
 use native.Mathlib.Nat.{zero-add, add-zero, suc-add, add-suc}
 use native.Mathlib.Omega.{arith}
 use native.Mathlib.Decide.{decLt}
+use Rattle.model.specs.Values.{idSpan}
 use Rattle.model.specs.Layout.{count}
 use Rattle.model.specs.Interrupts.{priority}
 use Rattle.model.specs.Interface.{candidate, rank, nothing, rankPriority, rankId, better, scan, best}
@@ -90,19 +91,19 @@ module _ (s : List ℕ) (v : ℕ) where
 
   -- ---- the order of ranks is priority, then ID; a rank has both
 
-  pub rank-order : (i j : ℕ) → i < 1024 → j < 1024 → rank s v i ≤ rank s v j → (priority s v i < priority s v j) ⊎ ((priority s v i ≡ priority s v j) × (i ≤ j))
+  pub rank-order : (i j : ℕ) → i < idSpan → j < idSpan → rank s v i ≤ rank s v j → (priority s v i < priority s v j) ⊎ ((priority s v i ≡ priority s v j) × (i ≤ j))
   unfolding rank
   rank-order i j hi hj h = elim (decLt (priority s v i) (priority s v j)) [ yes l ↦ inl l | no l ↦ inr (omega arith, omega arith) ]
 
-  pub rank-priority : (i : ℕ) → i < 1024 → rankPriority (rank s v i) ≡ priority s v i
+  pub rank-priority : (i : ℕ) → i < idSpan → rankPriority (rank s v i) ≡ priority s v i
   unfolding rank
   rank-priority i h = omega arith
 
-  pub rank-id : (i : ℕ) → i < 1024 → rankId (rank s v i) ≡ i
+  pub rank-id : (i : ℕ) → i < idSpan → rankId (rank s v i) ≡ i
   unfolding rank
   rank-id i h = omega arith
 
-  pub rank-below : (i : ℕ) → i < 1024 → rank s v i < 256 * 1024
+  pub rank-below : (i : ℕ) → i < idSpan → rank s v i < 256 * idSpan
   unfolding rank
   rank-below i h = omega arith
 

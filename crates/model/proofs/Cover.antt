@@ -10,7 +10,7 @@ use borrow.Author.Tests.{lt-ltb, le-ltb}
 use lib.Dec.{ltb}
 use lib.ListN.{getD, List·getD-eq-default}
 use Rattle.model.specs.Words.{spread}
-use Rattle.model.specs.Layout.{stateLength, word, count, vcpus, block, running, routeAt}
+use Rattle.model.specs.Layout.{stateLength, word, count, vcpus, block, running, routeAt, sgiEdgesAt, affinityAt, runningAt}
 use Rattle.model.specs.Sound.{usedBits, entry, headerBits, blockBits, bankBits, lastBankBits}
 use Rattle.model.specs.Attributes.{Attribute, attr, itemOf, itemRead}
 use Rattle.model.specs.Record.{listed, ofVcpu}
@@ -86,11 +86,11 @@ module _ (s t : List ℕ) (hs : Ready s) (ht : Ready t) (same : Alike s t) (rest
       lt = rw (same .same-number) l
 
       go : Dec (j ≡ 13) → Dec (j ≡ 14) → Dec (j ≡ 15) → Dec (j ≡ 16) → Dec (j ≡ 17) → Owned s t (block v + j)
-      go (yes e) d14 d15 d16 d17 = rw e (alike (block v + 13) (open-vcpu t v (ht .each-vcpu v lt) .edges ∙ sym (open-vcpu s v (hs .each-vcpu v l) .edges)))
+      go (yes e) d14 d15 d16 d17 = rw e (alike (sgiEdgesAt v) (open-vcpu t v (ht .each-vcpu v lt) .edges ∙ sym (open-vcpu s v (hs .each-vcpu v l) .edges)))
       go (no n13) (yes e) d15 d16 d17 = rw e (block-zero v 14 l (omega arith) refl)
       go (no n13) (no n14) (yes e) d16 d17 = rw e (block-zero v 15 l (omega arith) refl)
-      go (no n13) (no n14) (no n15) (yes e) d17 = rw e (alike (block v + 16) (same .same-affinities v l))
-      go (no n13) (no n14) (no n15) (no n16) (yes e) = rw e (alike (block v + 17) (rest v l))
+      go (no n13) (no n14) (no n15) (yes e) d17 = rw e (alike (affinityAt v) (same .same-affinities v l))
+      go (no n13) (no n14) (no n15) (no n16) (yes e) = rw e (alike (runningAt v) (rest v l))
       go (no n13) (no n14) (no n15) (no n16) (no n17) =
           let e : j ≡ 18 = omega arith in
           rw e (owned (block v + 18) (vcpu-status v l) refl)

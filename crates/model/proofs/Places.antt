@@ -10,7 +10,7 @@ use borrow.Author.Tests.{eq-eqb, ne-eqb, lt-ltb, le-ltb, not-true}
 use lib.Dec.{eqb, ltb}
 use lib.ListN.{getD}
 use Rattle.model.specs.Words.{bit, lowest, spread}
-use Rattle.model.specs.Layout.{word, vcpus, block, bank, affinity, routeAt, pmrAt, bprAt, aprAt, ctlrAt, igrpenAt}
+use Rattle.model.specs.Layout.{word, vcpus, block, bank, affinity, routeAt, pmrAt, bprAt, aprAt, ctlrAt, igrpenAt, affinityAt, bprField}
 use Rattle.model.specs.Registers.{decode, rows, read, flags, shownTo, statusAt, seenBy}
 use Rattle.model.specs.Interface.{system, systemIn, plainRead}
 use Rattle.model.specs.Attributes.{Attribute, attr, low, high, groupOf, indexOf, mappedItem, mapped, systemItem, item, itemIn, itemOf, itemRead}
@@ -181,7 +181,7 @@ module _ (s : List ℕ) (h : Ready s) where
   pub vcpu-parts : (v a : ℕ) → v < vcpus s → a < 2 ^ 32 → (low (ofVcpu s v a) ≡ a) × (high (ofVcpu s v a) ≡ affinity s v)
   vcpu-parts v a q l =
       let d : ofVcpu s v a / 2 ^ 32 ≡ affinity s v = omega arith in
-      (omega arith, ap (λ (x : ℕ). x % 2 ^ 32) d ∙ mod-eq-of-lt (fits-word s h (block v + 16) (omega (arith, h .few))))
+      (omega arith, ap (λ (x : ℕ). x % 2 ^ 32) d ∙ mod-eq-of-lt (fits-word s h (affinityAt v) (omega (arith, h .few))))
 
   -- attributes of the distributor, of a frame, of a CPU interface
   in-distributor : (off k : ℕ) (r : Register) → off < 2 ^ 32 → off % 4 ≡ 0 → decode (rows Distributor) off ≡ decoded.Listed r k → itemOf (attr 1 off) s ≡ Mapped Distributor r k
@@ -388,8 +388,8 @@ module _ (s : List ℕ) (h : Ready s) where
       in-block v (5 + j) l (omega arith) ∙ rw (le-ltb (5 + j) 4 (omega arith), ne-eqb (5 + j) 4 (λ z. omega arith), lt-ltb (5 + j) 13 (omega arith), e)
   from-place (vcpu-system v pmr l) = in-block v 19 l (omega arith)
   from-place (vcpu-system v ctlr l) = in-block v 20 l (omega arith)
-  from-place (vcpu-system v bpr0 l) = in-block v 21 l (omega arith)
-  from-place (vcpu-system v bpr1 l) = in-block v 22 l (omega arith)
+  from-place (vcpu-system v bpr0 l) = in-block v (bprField 0) l (omega arith)
+  from-place (vcpu-system v bpr1 l) = in-block v (bprField 1) l (omega arith)
   from-place (vcpu-system v ap0r l) = in-block v 23 l (omega arith)
   from-place (vcpu-system v ap1r l) = in-block v 24 l (omega arith)
   from-place (vcpu-system v igrpen0 l) = in-block v 25 l (omega arith)

@@ -9,7 +9,7 @@ use borrow.Author.Tests.{eqb-true, lt-ltb, le-leb}
 use lib.Dec.{eqb, ltb, leb}
 use lib.ListN.{getD, set}
 use Rattle.model.specs.Words.{bit, gather, within, allBelow, spread, masked}
-use Rattle.model.specs.Layout.{word, count, vcpus, block, bank, routeAt, ctlrField}
+use Rattle.model.specs.Layout.{word, count, vcpus, block, bank, routeAt, ctlrField, bprField, bprAt, leastBpr}
 use Rattle.model.specs.Interrupts.{isPrivate, isSpi, flag, edge, priority}
 use Rattle.model.specs.Sound.{fits, usedBits, blockBits, bankBits, lastBankBits}
 use Rattle.model.specs.Registers.{has, seenBy, flagAfter, writeFlags, writePriority, writeConfig, writeRoute, write, flags, ruleFor, writtenStatus, statusAt}
@@ -249,13 +249,13 @@ module _ (f s : List ℕ) (hf : Ready f) (hs : Ready s) (same : Alike f s) where
   put-system v pmr l = ap (set s (block v + 19)) (pmr-word _ (block-word f hf v 19 l (omega arith)))
   put-system v ctlr l = ap (set s (block v + 20)) (ctlr-word _ (block-word f hf v ctlrField l (omega arith)))
   put-system v bpr0 l =
-      let w = word f (block v + 21) in
-      let e : max 2 (w % 8) ≡ w = omega (arith, fits-le w 7 (block-word f hf v 21 l (omega arith)), open-vcpu f v (hf .each-vcpu v l) .bpr0) in
-      ap (set s (block v + 21)) e
+      let w = word f (bprAt v 0) in
+      let e : max (leastBpr 0) (w % 8) ≡ w = omega (arith, fits-le w 7 (block-word f hf v (bprField 0) l (omega arith)), open-vcpu f v (hf .each-vcpu v l) .bpr0) in
+      ap (set s (bprAt v 0)) e
   put-system v bpr1 l =
-      let w = word f (block v + 22) in
-      let e : max 3 (w % 8) ≡ w = omega (arith, fits-le w 7 (block-word f hf v 22 l (omega arith)), open-vcpu f v (hf .each-vcpu v l) .bpr1) in
-      ap (set s (block v + 22)) e
+      let w = word f (bprAt v 1) in
+      let e : max (leastBpr 1) (w % 8) ≡ w = omega (arith, fits-le w 7 (block-word f hf v (bprField 1) l (omega arith)), open-vcpu f v (hf .each-vcpu v l) .bpr1) in
+      ap (set s (bprAt v 1)) e
   put-system v ap0r l = ap (set s (block v + 23)) (mod-eq-of-lt (fits-word f hf (block v + 23) (omega (arith, hf .few))))
   put-system v ap1r l = ap (set s (block v + 24)) (mod-eq-of-lt (fits-word f hf (block v + 24) (omega (arith, hf .few))))
   put-system v igrpen0 l =

@@ -9,7 +9,7 @@ use lib.IntN.{pos}
 use lib.ListN.{length, set, drop}
 use lib.Seq.{getD-set-same, take-append-seam}
 use Rattle.model.specs.Words.{each}
-use Rattle.model.specs.Layout.{word, vcpus, block, affinity}
+use Rattle.model.specs.Layout.{word, vcpus, block, affinity, affinityAt}
 use Rattle.model.specs.Attributes.{Attribute, itemOf, itemRead, itemWrite}
 use Rattle.model.specs.Record.{ofVcpuBlock, listed, Entry, header, attributeOf, entries, entryRead, entryBytes, recordOf, readable, entryPut, done, taking, load, restored, faults, loadedState, saved}
 use Rattle.model.specs.declared.Refusal.the-variants.{None}
@@ -88,7 +88,7 @@ good-entries f h = (
     (
       omega (arith, h .few),
       all-append (Good f) (each (λ v. header (affinity f v) ∷ []) 0 (vcpus f)) (map attributeOf (listed f))
-          (all-each (Good f) (λ v. header (affinity f v) ∷ []) 0 (vcpus f) (λ v l m. (fits-word f h (block v + 16) (omega (arith, h .few)), tt)))
+          (all-each (Good f) (λ v. header (affinity f v) ∷ []) 0 (vcpus f) (λ v l m. (fits-word f h (affinityAt v) (omega (arith, h .few)), tt)))
           (all-map (Good f) (listed f) (λ a m. family f h m)),
     ),
   ),

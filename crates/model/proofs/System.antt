@@ -8,7 +8,7 @@ use native.Mathlib.Omega.{arith}
 use native.Mathlib.Decide.{decLt}
 use borrow.Author.Tests.{lt-ltb, ltb-true}
 use lib.ListN.{getD, set}
-use Rattle.model.specs.Values.{iccCtlrBits, pmrBits}
+use Rattle.model.specs.Values.{iccCtlrBits, pmrBits, idSpan}
 use Rattle.model.specs.Words.{bit, within, withBit, allBelow}
 use Rattle.model.specs.Layout.{word, count, vcpus, block, pmrField, pmrAt, ctlrField, ctlrAt, bprField, aprField, igrpenField, bprAt, aprAt, igrpenAt, latchField, activeField}
 use Rattle.model.specs.Interrupts.{isPrivate, isSpi, exists, setFlag}
@@ -117,8 +117,8 @@ module _ (s : List ℕ) (h : Ready s) (v : ℕ) (l : v < vcpus s) where
   unfolding acknowledged
   best-sound g m =
       ⊎-elim (λ e. rw e (ready-is-sound s h)) (λ f.
-      let d : f .0 < 1024 = omega (arith, f .1) in
-      rw (f .3, lt-ltb (rank s v (f .0)) (256 * 1024) (rank-below s v (f .0) d)) (taken-sound g _ m (rw (rank-id s v (f .0) d) (below-present s h v (f .0) l (f .1)))))
+      let d : f .0 < idSpan = omega (arith, f .1) in
+      rw (f .3, lt-ltb (rank s v (f .0)) (256 * idSpan) (rank-below s v (f .0) d)) (taken-sound g _ m (rw (rank-id s v (f .0) d) (below-present s h v (f .0) l (f .1)))))
       (best-found s v)
 
   offered-sound : (g : ℕ) → g < 2 → Sound (acknowledged s v g (offered s v g))

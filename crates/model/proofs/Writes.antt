@@ -276,7 +276,7 @@ module _ (s : List ℕ) (h : Ready s) where
   stores-config zero j value l m =
       let d : (2 * 0 + j) / 2 ≡ 0 = omega arith in
       let r : (2 * 0 + j) % 2 ≡ j = omega arith in
-      let q : block 0 + 13 + j ≡ block 0 + (13 + j) = omega arith in
+      let q : block 0 + edgeField + j ≡ block 0 + (edgeField + j) = omega arith in
       record {
         stored = word s (block 0 + (13 + j));
         state = rw (d, r, q) (ap (set s (block 0 + (13 + j))) (private-edges j m _ (λ i n. rw (not-spi (16 * (2 * 0 + j) + i) (omega arith)) (written-edge 0 j i m n))));

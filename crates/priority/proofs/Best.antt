@@ -10,6 +10,7 @@ use borrow.Author.Tests.{le-ltb}
 use lib.Count.{trailingZeros}
 use lib.Dec.{eqb, ltb}
 use lib.Pow.{shr-shr}
+use Rattle.model.specs.Values.{idSpan}
 use Rattle.model.specs.Words.{val, bit}
 use Rattle.model.specs.Layout.{word, count, affinity, bank, routeAt}
 use Rattle.model.specs.Interrupts.{isPrivate, isSpi, group, enabled, active, pending}
@@ -51,7 +52,7 @@ module _ (s : List ℕ) (v : ℕ) where
   unfolding ownOrRouted isPrivate
   own-or-routed id a r e q = let p : 768 + id - 32 ≡ routeAt id = omega arith in rw (p, e, q)
 
-  pub rank-read : (id at r : ℕ) → at ≡ bank v (id / 32) → r ≡ byteOf (word s (at + 5 + id % 32 / 4)) (id % 4) → r * 1024 + id ≡ rank s v id
+  pub rank-read : (id at r : ℕ) → at ≡ bank v (id / 32) → r ≡ byteOf (word s (at + 5 + id % 32 / 4)) (id % 4) → r * idSpan + id ≡ rank s v id
   unfolding rank
   rank-read id at r e q = rw (q, e)
 
@@ -115,22 +116,22 @@ module _ (s : List ℕ) (v : ℕ) where
   absent j b h l = ready-kept j b (simp (le-ltb j 32 l, le-ltb j (min (count s) 1020) h, and-false))
 
   -- priority 0 has just come: the best is that interrupt's ID
-  drops : (id b : ℕ) → 1024 ≤ b → routed s v id b < 1024 → routed s v id b ≤ id
+  drops : (id b : ℕ) → idSpan ≤ b → routed s v id b < idSpan → routed s v id b ≤ id
   unfolding routed rank
   drops id b f = go (ownOrRouted s v id)
     where
-      go : (t : Bool) → cond t (min (rank s v id) b) b < 1024 → cond t (min (rank s v id) b) b ≤ id
+      go : (t : Bool) → cond t (min (rank s v id) b) b < idSpan → cond t (min (rank s v id) b) b ≤ id
       go true h = omega arith
       go false h = absurd (omega arith)
 
   -- ---- the search's state: what is left; no priority 0 has come
 
   pub record Outer (b w : ℕ) : Type 0 where
-    pub far : 1024 ≤ b
+    pub far : idSpan ≤ b
     pub left : scan s v (count s - 32 * w) (32 * w) b ≡ best s v
 
   pub record Inner (b w m : ℕ) : Type 0 where
-    pub far : 1024 ≤ b
+    pub far : idSpan ≤ b
     pub small : m < 2 ^ 32
     pub left : scan s v (count s - (32 * w + 32)) (32 * w + 32) (over (step w) 32 0 m b) ≡ best s v
 
@@ -160,15 +161,15 @@ module _ (s : List ℕ) (v : ℕ) where
 
   -- one turn of the inner loop takes b to r
   module _ (b w m r : ℕ) (n : Inner b w m) (p : ¬ (m ≡ 0)) (e : r ≡ step w (trailingZeros 32 m) b) where
-    pub onward : (q d : ℕ) → q ≡ rest m → q < m → d ≤ r → 1024 ≤ d → Inner r w q
+    pub onward : (q d : ℕ) → q ≡ rest m → q < m → d ≤ r → idSpan ≤ d → Inner r w q
     onward q d z k j i =
-        let h : 1024 ≤ r = omega arith in
+        let h : idSpan ≤ r = omega arith in
         let l : 0 < m = omega arith in
         let next : over (step w) 32 0 m b ≡ over (step w) 32 0 (rest m) r =
         over-next (step w) 32 0 m b l (n .small) ∙ cc (lower-rest m l (n .small), zero-add (trailingZeros 32 m)) in
         record { far = h; small = omega (arith, n .small); left = rw (z, ← next) (n .left) }
 
-    pub left-early : r < 1024 → r ≡ best s v
+    pub left-early : r < idSpan → r ≡ best s v
     left-early h =
         let l : 0 < m = omega arith in
         let t = trailingZeros 32 m in

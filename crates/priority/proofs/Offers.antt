@@ -10,6 +10,7 @@ use lib.Dec.{eqb, ltb}
 use lib.ListN.{set}
 use mir.Syntax.{w32}
 use mir.Val.{Fits, boolByte}
+use Rattle.model.specs.Values.{idSpan, spurious}
 use Rattle.model.specs.Words.{val, bit, withBit, lowest}
 use Rattle.model.specs.Layout.{word, block, pmrAt, bprAt, aprAt, latchField, activeField}
 use Rattle.model.specs.Interrupts.{group, setFlag}
@@ -72,21 +73,21 @@ module _ (s : List ℕ) (v g : ℕ) where
 
   -- ---- what the best b is to the group
 
-  pub group-tested : (b : ℕ) (t : Bool) → t ≡ group s v (b % 1024) → (ltb b 262144 && eqb (boolByte t) g) ≡ ofGroup s v g b
+  pub group-tested : (b : ℕ) (t : Bool) → t ≡ group s v (b % idSpan) → (ltb b (256 * idSpan) && eqb (boolByte t) g) ≡ ofGroup s v g b
   unfolding ofGroup
   group-tested b t e = rw (← e) (go t)
     where
-      go : (t : Bool) → (ltb b 262144 && eqb (boolByte t) g) ≡ (ltb b 262144 && eqb (val t) g)
+      go : (t : Bool) → (ltb b (256 * idSpan) && eqb (boolByte t) g) ≡ (ltb b (256 * idSpan) && eqb (val t) g)
       go true = refl
       go false = refl
 
   module _ (b : ℕ) (e : b ≡ best s v) where
     -- the highest pending
-    pub pending-given : (t : Bool) → t ≡ ofGroup s v g b → t ≡ true → b % 1024 ≡ highestPending s v g
+    pub pending-given : (t : Bool) → t ≡ ofGroup s v g b → t ≡ true → b % idSpan ≡ highestPending s v g
     unfolding highestPending
     pending-given t q h = rw (← e, ← q, h)
 
-    pub pending-none : (t : Bool) → t ≡ ofGroup s v g b → t ≡ false → 1023 ≡ highestPending s v g
+    pub pending-none : (t : Bool) → t ≡ ofGroup s v g b → t ≡ false → spurious ≡ highestPending s v g
     unfolding highestPending
     pending-none t q h = rw (← e, ← q, h)
 
@@ -100,45 +101,45 @@ module _ (s : List ℕ) (v g : ℕ) where
       unfolding offered
       offers-nothing h = rw (← e, told-no (gives s v g b) t q h)
 
-      given-below : not t ≡ false → b < 262144
+      given-below : not t ≡ false → b < (256 * idSpan)
       unfolding gives ofGroup
       given-below h =
-          let a = both (ofGroup s v g b && ltb (b / 1024) (word s (pmrAt v))) (ltb (groupPriority s v g (b / 1024)) (8 * runningLevel s v)) (told-yes (gives s v g b) t q h) in
-          let o = both (ofGroup s v g b) (ltb (b / 1024) (word s (pmrAt v))) (a .0) in
-          ltb-true b 262144 (both (ltb b 262144) (eqb (val (group s v (b % 1024))) g) (o .0) .0)
+          let a = both (ofGroup s v g b && ltb (b / idSpan) (word s (pmrAt v))) (ltb (groupPriority s v g (b / idSpan)) (8 * runningLevel s v)) (told-yes (gives s v g b) t q h) in
+          let o = both (ofGroup s v g b) (ltb (b / idSpan) (word s (pmrAt v))) (a .0) in
+          ltb-true b (256 * idSpan) (both (ltb b (256 * idSpan)) (eqb (val (group s v (b % idSpan))) g) (o .0) .0)
 
       -- the level to be set
-      pub given-level : (p : ℕ) → not t ≡ false → p ≤ b / 1024 → p / 8 < 32
+      pub given-level : (p : ℕ) → not t ≡ false → p ≤ b / idSpan → p / 8 < 32
       given-level p h l = omega (arith, given-below h)
 
-      pub given-most : (p : ℕ) → not t ≡ false → p ≤ b / 1024 → p / 8 ≤ 32
+      pub given-most : (p : ℕ) → not t ≡ false → p ≤ b / idSpan → p / 8 ≤ 32
       given-most p h l = omega (arith, given-level p h l)
 
       -- ---- acknowledge
 
-      pub none-given : not t ≡ true → Acknowledges g v s (Value 1023) s
+      pub none-given : not t ≡ true → Acknowledges g v s (Value spurious) s
       unfolding firstFailing levelClear acknowledged
       none-given h = rw (offers-nothing h) (record { answer = refl; state = refl })
 
-      module _ (h : not t ≡ false) (p : ℕ) (c : p ≡ groupPriority s v g (b / 1024)) (u : Bool) (d : u ≡ bit (word s (aprAt v g)) (p / 8)) where
+      module _ (h : not t ≡ false) (p : ℕ) (c : p ≡ groupPriority s v g (b / idSpan)) (u : Bool) (d : u ≡ bit (word s (aprAt v g)) (p / 8)) where
         same-level : levelClear s v g (offered s v g) ≡ not u
         unfolding levelClear levelOf
-        same-level = rw (offers h, lt-ltb b 262144 (given-below h), ← c, ← d)
+        same-level = rw (offers h, lt-ltb b (256 * idSpan) (given-below h), ← c, ← d)
 
         pub level-taken : u ≡ true → Acknowledges g v s (Refused Eio) s
         unfolding firstFailing
         level-taken k = rw (same-level, k) (record { answer = refl; state = refl })
 
-        pub given : (x : List ℕ) → u ≡ false → x ≡ setLevel true v g (p / 8) (setFlag latchField false v (b % 1024) (setFlag activeField true v (b % 1024) s))
-            → Acknowledges g v s (Value (b % 1024)) x
+        pub given : (x : List ℕ) → u ≡ false → x ≡ setLevel true v g (p / 8) (setFlag latchField false v (b % idSpan) (setFlag activeField true v (b % idSpan) s))
+            → Acknowledges g v s (Value (b % idSpan)) x
         unfolding firstFailing acknowledged taken levelOf
-        given x k m = rw (same-level, k, offers h, lt-ltb b 262144 (given-below h), ← c) (record { answer = refl; state = m })
+        given x k m = rw (same-level, k, offers h, lt-ltb b (256 * idSpan) (given-below h), ← c) (record { answer = refl; state = m })
 
 -- ---- the signal
 
 module _ (s : List ℕ) (v b : ℕ) (e : b ≡ best s v) where
   found-by : (g : ℕ) (t : Bool) → t ≡ gives s v g b → found (offered s v g) ≡ t
-  found-by g true q = rw (offers s v g b e true q refl) (lt-ltb b 262144 (given-below s v g b e true q refl))
+  found-by g true q = rw (offers s v g b e true q refl) (lt-ltb b (256 * idSpan) (given-below s v g b e true q refl))
   found-by g false q = rw (offers-nothing s v g b e false q refl)
 
   pub signal-one : (t : Bool) → t ≡ gives s v 1 b → t ≡ true → 1 ≡ signal s v

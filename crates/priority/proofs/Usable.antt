@@ -5,7 +5,8 @@ use mathlib.Core.Bool.{true}
 use mathlib.Core.List.{List}
 use native.Mathlib.Omega.{arith}
 use borrow.Author.Tests.{eqb-true, ltb-true}
-use Rattle.model.specs.Layout.{word, initialised, isInitialised, vcpus, ctlrAt, bprAt}
+use Rattle.model.specs.Values.{iccCtlrBits, bprBits}
+use Rattle.model.specs.Layout.{word, initialised, isInitialised, vcpus, ctlrAt, bprAt, ctlrField, bprField}
 use Rattle.model.specs.Sound.{sound}
 use Rattle.model.specs.Calls.{isVcpu}
 use Rattle.model.proofs.Within.{fits-le}
@@ -22,7 +23,7 @@ usable s v e i l =
       index = omega (arith, h .few);
       most = h .counted .most;
       step = h .counted .step;
-      mode = fits-le (word s (ctlrAt v)) 2 (block-word s h v 20 m (omega arith));
-      point0 = fits-le (word s (bprAt v 0)) 7 (block-word s h v 21 m (omega arith));
-      point1 = fits-le (word s (bprAt v 1)) 7 (block-word s h v 22 m (omega arith));
+      mode = fits-le (word s (ctlrAt v)) iccCtlrBits (block-word s h v ctlrField m (omega arith));
+      point0 = fits-le (word s (bprAt v 0)) bprBits (block-word s h v (bprField 0) m (omega arith));
+      point1 = fits-le (word s (bprAt v 1)) bprBits (block-word s h v (bprField 1) m (omega arith));
     }

@@ -59,9 +59,9 @@ fn store_in(s: &mut [u32], at: usize, n: usize, j: usize, x: u32)
     store(&mut s[at..at + n], j, x);
 }
 
-// Stores word `j` of the block of vCPU `v`.
+// Stores word `j` of the block of vCPU `v`, after its bank.
 pub fn put_in_block(s: &mut [u32], v: VcpuIndex, j: usize, x: u32)
-    requires { ⌜ (length (now s) ≡ stateLength) × (v .0 < mostVcpus) × (j < 32) ⌝ }
+    requires { ⌜ (length (now s) ≡ stateLength) × (v .0 < mostVcpus) × (16 ≤ j) × (j < 32) ⌝ }
     ensures { λ _. ⌜ now (s .exit) ≡ set (now (s .entry)) (block (v .0) + j) x ⌝ }
 {
     store_in(s, block_at(v), BLOCK_LENGTH, j, x);

@@ -9,7 +9,7 @@ use borrow.Author.Tests.{eq-eqb, ne-eqb}
 use lib.Dec.{eqb}
 use lib.Seq.{getD-set-other}
 use Rattle.model.specs.Words.{bit}
-use Rattle.model.specs.Layout.{word, vcpus, block, affinity, latchField}
+use Rattle.model.specs.Layout.{word, vcpus, block, affinity, latchField, affinityAt}
 use Rattle.model.specs.Interrupts.{setFlag}
 use Rattle.model.specs.Interface.{named, targets, sgiId, reaches, sgiSent}
 use Rattle.words.proofs.Operators.{bit-above}
@@ -64,7 +64,7 @@ module _ (only0 : Bool) (v x : ℕ) (s : List ℕ) where
   unfolding reaches targets
   reaches-same n t =
       let own : sgiId x / 32 ≡ 0 = omega arith in
-      rw (own, sent-keeps n (block t + 16) (λ u e. omega arith), sent-keeps n (block t + 0) (λ u e. omega arith))
+      rw (own, sent-keeps n (affinityAt t) (λ u e. omega arith), sent-keeps n (block t + 0) (λ u e. omega arith))
 
   -- t is the state when n vCPUs are done
   module _ (n : ℕ) (t : List ℕ) (e : t ≡ sgiSent n only0 v x s) where

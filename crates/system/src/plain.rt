@@ -15,7 +15,7 @@ use state::block_at;
 use state::put_in_block;
 use words::bits_under;
 ghost use mathlib.Core.Path.{_≡_};
-ghost use Prim.Native.Nat.{_+_, _%_, _<_, max};
+ghost use Prim.Native.Nat.{_+_, _%_, _≤_, _<_, max};
 ghost use lib.ListN.{length};
 ghost use Rattle.model.specs.Values.{iccCtlrBits};
 ghost use Rattle.model.specs.Words.{masked};
@@ -25,8 +25,8 @@ ghost use Rattle.priority.specs.Asked.{Usable};
 
 // The place in a block of group `g`'s word, of the two words from `first` on.
 fn place_of(first: usize, g: usize) -> usize
-    requires { ⌜ (first < 30) × (g < 2) ⌝ }
-    ensures { λ r. ⌜ (r ≡ first + g) × (r < 32) ⌝ }
+    requires { ⌜ (16 ≤ first) × (first < 30) × (g < 2) ⌝ }
+    ensures { λ r. ⌜ (r ≡ first + g) × (16 ≤ r) × (r < 32) ⌝ }
 {
     first + g
 }

@@ -7,7 +7,7 @@ use Rattle.setup.proofs.set_running.Statement.{statement}
 use Rattle.setup.proofs.set_running.Tie as tie
 
 put-in-block-requires : tie.Need-put-in-block-requires
-put-in-block-requires c κs = (search admitted-size, search vcpu-inside, search lit<)
+put-in-block-requires c κs = (search admitted-size, search vcpu-inside, search needs, search lit<)
 
 pub set-running-spec : {M : Type 1} → statement M
 set-running-spec =

@@ -1,5 +1,5 @@
 -- `system::plain::read_plain` meets its contract.
-use lib.Dec.{lit<}
+use lib.Dec.{lit<, lit≤}
 use Rattle.model.specs.Interface.{plainRead}
 use Rattle.system.proofs.Registers.{group-of, mode-fits, reads-word}
 use borrow.Author.Needs.{needs}
@@ -11,7 +11,7 @@ unfolding plainRead
 read-plain-spec =
     tie.close
     (tie.spec (λ c κs. search needs) (λ c. search needs) (λ c. search needs) (λ c. search needs) (λ c. search needs) (λ c. search needs)
-    (λ c κs. search (group-of, lit<)) (λ c. search needs) (λ c. search needs) (λ c. search needs) (λ c. search needs) (λ c κs. search (group-of, lit<))
+    (λ c κs. search (group-of, lit<, lit≤)) (λ c. search needs) (λ c. search needs) (λ c. search needs) (λ c. search needs) (λ c κs. search (group-of, lit<, lit≤))
     (λ c. search needs) (λ c. search needs) (λ c. search needs) (λ c. search needs) (λ c. search needs) (λ c. search needs) (λ c. search needs)
-    (λ c. search mode-fits) (λ c. search needs) (λ c. search needs) (λ c κs. search (group-of, lit<)) (λ c. search needs) (λ c. search needs)
+    (λ c. search mode-fits) (λ c. search needs) (λ c. search needs) (λ c κs. search (group-of, lit<, lit≤)) (λ c. search needs) (λ c. search needs)
     (λ c. search needs) (λ c. cc) (λ c. search reads-word) (λ c. search reads-word) (λ c. cc) (λ c. cc) (λ c. search reads-word))
