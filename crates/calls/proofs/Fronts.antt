@@ -14,7 +14,7 @@ use Rattle.model.specs.Calls.{Outcome, Does, Saves, frontOf, handedBack}
 use Rattle.model.specs.declared.Answer.{Answer}
 use Rattle.model.specs.declared.Answer.the-variants.{Value, Refused}
 use Rattle.model.proofs.Refused.{errno-positive}
-use Rattle.record.specs.Slots.{frontLength}
+use Rattle.record.specs.Written.{frontLength}
 
 -- as long as it says
 pub front-long : (a : Answer) (n : ℕ) (b : List ℕ) → n ≡ frontLength a → frontLength a ≤ length b → n ≡ length (take n b)

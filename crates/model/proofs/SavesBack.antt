@@ -39,7 +39,7 @@ use Rattle.model.specs.Roles.{withDerived}
 -- ---- the order in which the record comes to the places of the state
 
 -- the words of the vCPUs' blocks after all others, and in each block STATUSR, its word 18, first
-unfoldable turn : ℕ → ℕ
+unfoldable pub turn : ℕ → ℕ
 turn p = cond (leb 16 p && ltb p 272) (cond (eqb (p % 32) 2) (1982 + p) (2001 + p)) p
 
 turn-after : (p : ℕ) → 272 ≤ p → turn p ≡ p
@@ -57,7 +57,7 @@ turn-block v j l m n = rw (le-leb 16 (block v + j) (omega arith), lt-ltb (block 
 -- ---- the entries of a record are in that order
 
 -- the turns of their listed attributes rise, from lo on and before hi
-abbrev Rising : List ℕ → ℕ → ℕ → List Entry → Type 0
+abbrev pub Rising : List ℕ → ℕ → ℕ → List Entry → Type 0
 Rising s lo hi [] = lo ≤ hi
 Rising s lo hi (header x ∷ es) = Rising s lo hi es
 Rising s lo hi (attributeOf a ∷ es) = (l : Listed s a) × (k : ℕ) × (turn (placeOf l) ≡ k) × (lo ≤ k) × Rising s (suc k) hi es
@@ -156,7 +156,7 @@ module _ (s : List ℕ) where
     rising-headers f b zero lo hi es r = r
     rising-headers f b (suc k) lo hi es r = rising-headers f (suc b) k lo hi es r
 
-    rising-entries : Rising s 0 (2000 + block (vcpus s)) (entries s)
+    pub rising-entries : Rising s 0 (2000 + block (vcpus s)) (entries s)
     unfolding entries Ordered
     rising-entries = rising-headers (affinity s) 0 (vcpus s) 0 _ (map attributeOf (listed s)) ordered-listed
 
@@ -191,10 +191,10 @@ module _ (t : List ℕ) (ht : Fresh t) where
   rt = fresh-ready t ht
 
   -- a device of the target's set-up has a listed attribute where the target has it
-  names-there : (u : List ℕ) → RestingLike t u → {a : Attribute} (l : Listed t a) → itemOf a u ≡ namedBy l
+  pub names-there : (u : List ℕ) → RestingLike t u → {a : Attribute} (l : Listed t a) → itemOf a u ≡ namedBy l
   names-there u h l = let c = carried t u (h .alike) l in names-item u (h .resting .is-ready) (c .there) ∙ c .names
 
-  reads-there : (u : List ℕ) → RestingLike t u → {a : Attribute} (l : Listed t a) → entryRead u (attributeOf a) ≡ shown (shapeOf l) (word u (placeOf l))
+  pub reads-there : (u : List ℕ) → RestingLike t u → {a : Attribute} (l : Listed t a) → entryRead u (attributeOf a) ≡ shown (shapeOf l) (word u (placeOf l))
   unfolding entryRead
   reads-there u h l = let c = carried t u (h .alike) l in rw (c .place, c .shape) at (reads-place u (h .resting .is-ready) (c .there))
 

@@ -1,309 +1,284 @@
--- Save writes the record part by part.
-use Prim.Native.Nat.{ℕ, zero, suc, _+_, _*_, _-_, _≤_, _<_}
-use mathlib.Core.Path.{_≡_, refl, sym, ap, _∙_}
-use mathlib.Core.Bool.{true}
-use mathlib.Core.List.{List, [], _∷_, _++_, append-nil}
+-- Save counts and writes the record part by part: what is left gives, with what is done, the whole.
+use Prim.Native.Nat.{ℕ, zero, suc, _+_, _*_, _-_, _^_, _≤_, _<_}
+use mathlib.Core.Path.{_≡_, refl, sym, ap, ap₂, _∙_}
+use mathlib.Core.Bool.{Bool, true, false}
+use mathlib.Core.List.{List, [], _∷_, _++_, append-assoc}
 use native.Mathlib.Omega.{arith}
+use native.Mathlib.Nat.{zero-add, add-suc, add-zero}
 use native.Mathlib.Numerals.{add-one}
 use borrow.Author.Tests.{le-leb}
-use lib.Dec.{leb, lit<}
-use lib.ListN.{length, getD, take, drop, drop-of-length-le}
-use lib.Seq.{sets}
-use mir.Syntax.{w32, w64}
+use mir.Syntax.{w64}
 use mir.Val.{Fits}
-use Rattle.model.specs.Words.{each, spread}
-use Rattle.model.specs.Values.{gicdCtlrFixed, gicdCtlrBits, iccCtlrFixed, iccCtlrBits}
-use Rattle.model.specs.Layout.{stateLength, mostVcpus, word, count, vcpus, block, ctlrAt, enablesAt, distributorStatusAt, latchField, activeField, edgeField}
-use Rattle.model.specs.Record.{spiWords, spis, encode, recordOf}
+use lib.Dec.{leb}
+use lib.ListN.{length, getD, take, drop, length-append, drop-of-length-le}
+use lib.Seq.{sets, length-sets, drop-cons}
+use Rattle.model.specs.Words.{each}
+use Rattle.model.specs.Layout.{stateLength, word, count, vcpus}
+use Rattle.model.specs.Record.{encode, recordOf}
 use Rattle.model.specs.Demands.{Stopped}
+use Rattle.model.proofs.Numbers.{encode-short}
 use Rattle.model.proofs.Soundness.{stopped-ready}
-use Rattle.model.proofs.Within.{fits-le}
-use Rattle.model.proofs.Masks.{header-word, block-word}
-use Rattle.record.specs.Slots.{Sized, run, bankSlots, vcpuSlots, slotsOf, headerAt, slotRead, slotBytes}
-use Rattle.record.specs.Written.{wordsBytes, flagsFrom, Wrote}
-use Rattle.record.specs.declared.slots.Slot.{Slot}
-use Rattle.record.specs.declared.slots.Slot.the-variants.{Header}
-use Rattle.record.proofs.Bytes.{drop-next}
-use Rattle.record.proofs.Writing.{Writing, writing-none, writing-end, writing-split, writing-empty, writing-room, writing-next, writing-last}
+use Rattle.record.specs.Table.{Slot, slot, shown, plain, slotRead, slotBytes, slotsIn, blank, parts, slots, leftAt, ShapeOf, Inside}
+use Rattle.record.specs.Written.{wordsBytes, Small, Wrote}
+use Rattle.record.specs.declared.table.Kind.{Kind}
+use Rattle.record.specs.declared.table.Kind.the-variants.{Exactly, SetUp, Within, Fields, Above, Edges}
+use Rattle.record.specs.declared.table.Part.{Part}
+use Rattle.record.specs.declared.table.Shape.{Shape}
+use Rattle.record.proofs.Bytes.{sets-next, drop-next}
+use Rattle.record.proofs.Lists.{length-run, run-at}
 use Rattle.record.proofs.Order.{length-slots}
-use Rattle.record.proofs.Standing.{sized}
-use Rattle.record.proofs.Saving.{record-is}
-use Rattle.record.proofs.Parts.{bytes-append, bytes-short, flagParts, flag-bytes, privateBytes, pointBytes, routeBytes, bankParts, blockParts, recordParts, bank-bytes, block-bytes, slots-bytes}
+use Rattle.record.proofs.Saving.{record-is, slot-small}
+use Rattle.record.proofs.Walking.{left-all, left-whole, left-end}
 
--- ---- what is asked of a stopped device
+-- ---- bytes one after the other
 
-module _ (s : List ℕ) (h : Stopped s) where
-  pub stopped-sized : Sized (count s) (vcpus s)
-  stopped-sized = sized s (stopped-ready s h)
+-- the first of some words, of the values of a part, and of the parts
+words-next : (ws : List ℕ) (i : ℕ) → i < length ws → wordsBytes (drop i ws) ≡ encode (getD ws i 0) ++ wordsBytes (drop (i + 1) ws)
+unfolding wordsBytes
+words-next ws i l = rw (drop-next ws i 0 l)
 
-  pub stopped-inside : (i : ℕ) → i < stateLength → i < length s
-  stopped-inside i l = omega (arith, stopped-ready s h .size)
+words-end : (ws : List ℕ) (i : ℕ) → length ws ≤ i → wordsBytes (drop i ws) ≡ []
+unfolding wordsBytes
+words-end ws i l = rw (drop-of-length-le ws l)
 
-  pub enables-fit : Fits w32 (gicdCtlrFixed + word s enablesAt)
-  enables-fit = record { fits = omega (arith, fits-le (word s enablesAt) gicdCtlrBits (header-word s (stopped-ready s h) enablesAt (omega arith))) }
+module _ (s : List ℕ) where
+  bytes-append : (xs ys : List Slot) → slotBytes s (xs ++ ys) ≡ slotBytes s xs ++ slotBytes s ys
+  unfolding slotBytes
+  bytes-append [] ys = refl
+  bytes-append (x ∷ xs) ys = ap (λ (l : List ℕ). encode (slotRead s x) ++ l) (bytes-append xs ys) ∙ sym (append-assoc (encode (slotRead s x)) (slotBytes s xs) (slotBytes s ys))
 
+  module _ (p : Part) (j : ℕ) where
+    abbrev at-word : ℕ → Slot
+    at-word i = slot (p .base + p .first + i) (p .kind) (p .first + i)
+
+    values-next : j < p .len → slotBytes s (drop j (slotsIn p)) ≡ encode (shown (p .kind) (word s (p .base + p .first + j))) ++ slotBytes s (drop (j + 1) (slotsIn p))
+    unfolding slotBytes slotRead
+    values-next l = rw (drop-next (slotsIn p) j (at-word 0) (rw (length-run (at-word 0) at-word 0 (p .len)) l), run-at (at-word 0) at-word 0 (p .len) j l, zero-add j)
+
+    values-end : p .len ≤ j → slotBytes s (drop j (slotsIn p)) ≡ []
+    unfolding slotBytes
+    values-end l = rw (drop-of-length-le (slotsIn p) {i = j} (rw (length-run (at-word 0) at-word 0 (p .len)) l))
+
+  parts-next : (ps : List Part) (k : ℕ) → slotBytes s (leftAt ps k 0) ≡ slotBytes s (slotsIn (getD ps k blank)) ++ slotBytes s (leftAt ps (k + 1) 0)
+  parts-next ps k = ap (slotBytes s) (left-whole ps k) ∙ bytes-append (slotsIn (getD ps k blank)) (leftAt ps (k + 1) 0)
+
+  parts-end : (ps : List Part) (k n : ℕ) → n ≡ length ps → n ≤ k → slotBytes s (leftAt ps k 0) ≡ []
+  unfolding slotBytes
+  parts-end ps k n e l = ap (slotBytes s) (left-end ps k (omega arith))
+
+  -- a value has at most five
+  bytes-short : (xs : List Slot) → length (slotBytes s xs) ≤ 5 * length xs
+  unfolding slotBytes
+  bytes-short [] = omega arith
+  bytes-short (x ∷ xs) = omega (arith, length-append (encode (slotRead s x)) (slotBytes s xs), encode-short (slotRead s x), bytes-short xs)
+
+  -- a part that is shown as it is: its words
+  as-words : (k : Kind) → plain k ≡ true → (q f b n : ℕ) → q + b + n ≤ length s → slotBytes s (each (λ j. slot (q + j) k (f + j) ∷ []) b n) ≡ wordsBytes (take n (drop (q + b) s))
+  unfolding each slotBytes wordsBytes
+  as-words k h q f b zero l = refl
+  as-words k h q f b (suc n) l = rw (drop-cons s (q + b) 0 (omega arith)) (ap₂ (λ (x : ℕ) (y : List ℕ). encode x ++ y) (as-is k h) (as-words k h q f (suc b) n (omega arith) ∙ rw add-suc))
+    where
+      as-is : (k : Kind) → plain k ≡ true → slotRead s (slot (q + b) k (f + b)) ≡ word s (q + b)
+      as-is (Exactly n) h = unfold plain in (let z : _≡_ {A = ℕ} 0 1 = cc in absurd (omega arith))
+      as-is SetUp h = unfold slotRead shown in refl
+      as-is (Within m) h = unfold slotRead shown in refl
+      as-is (Fields b) h = unfold slotRead shown in refl
+      as-is (Above a m) h = unfold plain in (let z : _≡_ {A = ℕ} 0 1 = cc in absurd (omega arith))
+      as-is (Edges b) h = unfold plain in (let z : _≡_ {A = ℕ} 0 1 = cc in absurd (omega arith))
+
+  part-words : length s ≡ stateLength → (p : Part) → Inside p → (r : Bool) → r ≡ plain (p .kind) → r ≡ true
+      → wordsBytes (take (p .base + p .first + p .len - (p .base + p .first)) (drop (p .base + p .first) s)) ≡ slotBytes s (slotsIn p)
+  part-words size p i r h t =
+      let z : p .base + p .first + p .len - (p .base + p .first) ≡ p .len = omega arith in
+      rw z (sym (as-words (p .kind) (sym h ∙ t) (p .base + p .first) (p .first) 0 (p .len) (omega (arith, i .within)) ∙ rw add-zero))
+
+-- ---- the record of a stopped device
+
+module _ (s : List ℕ) (st : Stopped s) where
   pub stopped-length : length s ≡ stateLength
-  stopped-length = stopped-ready s h .size
+  stopped-length = stopped-ready s st .size
 
-  pub stopped-few : vcpus s ≤ mostVcpus
-  stopped-few = stopped-sized .few
+  module _ (h : Shape) (sh : ShapeOf s h) where
+    abbrev table : List Part
+    table = parts (h .count) (h .vcpus)
 
-  pub stopped-least : 64 ≤ count s
-  stopped-least = stopped-sized .least
+    -- all bytes are the record
+    bytes-all : slotBytes s (leftAt table 0 0) ≡ recordOf s
+    bytes-all = ap (slotBytes s) (left-all table) ∙ rw (sh .same-count, sh .same-vcpus) (sym (record-is s (stopped-ready s st)))
 
-  pub stopped-most : count s ≤ 1024
-  stopped-most = stopped-sized .most
+    pub part-small : (k : ℕ) (p : Part) → p ≡ getD table k blank → Small s p
+    part-small k p e = record { small = λ j l. slot-small s (stopped-ready s st) k j p (rw (sh .same-count, sh .same-vcpus) at e) l }
 
-  pub routes-inside : (m : ℕ) → m ≡ spis (count s) → 768 + m ≤ length s
-  routes-inside m e = omega (arith, stopped-length)
+    record-short : length (recordOf s) ≤ 5 * length (slots (h .count) (h .vcpus))
+    record-short = rw (← bytes-all, left-all table) (bytes-short s (slots (h .count) (h .vcpus)))
 
-  pub stopped-vcpu : (v n : ℕ) → n ≤ vcpus s → v < n → v < mostVcpus
-  stopped-vcpu v n m l = omega (arith, stopped-sized .few)
+    record-most : length (recordOf s) ≤ 8210
+    record-most = omega (arith, record-short, length-slots (h .count) (h .vcpus), sh .sized .most, sh .sized .few)
 
-  pub ctlr-small : (v n : ℕ) → n ≤ vcpus s → v < n → word s (ctlrAt v) ≤ iccCtlrBits
-  ctlr-small v n m l = fits-le (word s (ctlrAt v)) iccCtlrBits (block-word s (stopped-ready s h) v 20 (omega arith) (omega arith))
+    -- a buffer of five bytes to each value has room
+    pub room-surely : (len n : ℕ) → n ≡ length (slots (h .count) (h .vcpus)) → 5 * n ≤ len → true ≡ leb (length (recordOf s)) len
+    room-surely len n e l = sym (le-leb (length (recordOf s)) len (omega (arith, record-short)))
 
-  pub count-fits : Fits w64 (count s)
-  count-fits = record { fits = omega (arith, stopped-sized .most) }
+pub room-counted : (s : List ℕ) (len n : ℕ) → n ≡ length (recordOf s) → leb n len ≡ leb (length (recordOf s)) len
+room-counted s len n e = rw e
 
-  pub vcpus-fits : Fits w64 (vcpus s)
-  vcpus-fits = record { fits = omega (arith, stopped-sized .few) }
+-- what a value of a part is shown as
+pub value-small : (s : List ℕ) (p : Part) → Small s p → (j : ℕ) → j < p .len → shown (p .kind) (word s (p .base + p .first + j)) < 2 ^ 32
+value-small s p h j l = h .small j l
 
--- `search numbers` finds what the numbers of values and of vCPUs ask
-pub ruleset numbers = (stopped-sized, stopped-inside, count-fits, vcpus-fits, lit<)
+-- ---- counting: `sum` of the bytes `all`, and `left` is left
 
--- ---- the room: a value has at most five bytes
-pub record-short : (s : List ℕ) → Stopped s → length (recordOf s) ≤ 5 * length (slotsOf s)
-record-short s h = rw (record-is s (stopped-ready s h)) (bytes-short s (slotsOf s))
+pub record Counting (all : List ℕ) (sum : ℕ) (left : List ℕ) : Type 0 where
+  pub whole : sum + length left ≡ length all
 
--- a buffer of five bytes to each value has room
-module _ (s : List ℕ) (len : ℕ) where
-  pub room-surely : Stopped s → (t : ℕ) → t ≡ length (slotsOf s) → 5 * t ≤ len → true ≡ leb (length (recordOf s)) len
-  room-surely h t e l = sym (le-leb (length (recordOf s)) len (omega (arith, record-short s h)))
+pub counting-none : (all : List ℕ) → Counting all 0 all
+counting-none all = record { whole = zero-add (length all) }
 
-  pub room-counted : (n : ℕ) → n ≡ length (recordOf s) → leb n len ≡ leb (length (recordOf s)) len
-  room-counted n e = rw e
+module _ (all : List ℕ) (sum : ℕ) where
+  counting-next : (left xs ys : List ℕ) → left ≡ xs ++ ys → Counting all sum left → (n : ℕ) → n ≡ length xs → Counting all (sum + n) ys
+  counting-next left xs ys e w n q = record { whole = omega (arith, w .whole, ap length e, length-append xs ys) }
 
--- ---- words as they stand
+  counting-end : (left : List ℕ) → left ≡ [] → Counting all sum left → sum ≡ length all
+  counting-end left e w = omega (arith, w .whole, ap length e)
 
-module _ (ws : List ℕ) (i : ℕ) where
-  pub words-next : i < length ws → wordsBytes (drop i ws) ≡ encode (getD ws i 0) ++ wordsBytes (drop (i + 1) ws)
-  unfolding wordsBytes
-  words-next l = rw (drop-next ws i 0 l)
+  module _ (ws : List ℕ) (i : ℕ) (w : Counting all sum (wordsBytes (drop i ws))) where
+    pub words-counting : i < length ws → (n : ℕ) → n ≡ length (encode (getD ws i 0)) → Counting all (sum + n) (wordsBytes (drop (i + 1) ws))
+    words-counting l n q = counting-next (wordsBytes (drop i ws)) (encode (getD ws i 0)) (wordsBytes (drop (i + 1) ws)) (words-next ws i l) w n q
 
-  pub words-end : length ws ≤ i → wordsBytes (drop i ws) ≡ []
-  unfolding wordsBytes
-  words-end l = rw (drop-of-length-le ws l)
+    pub words-counted : length ws ≤ i → sum ≡ length all
+    words-counted l = counting-end _ (words-end ws i l) w
 
-pub words-none : (b : List ℕ) (at : ℕ) (ws : List ℕ) → at + length (wordsBytes ws) ≤ length b → Writing b at (wordsBytes ws) b at (wordsBytes (drop 0 ws) ∷ [])
-words-none b at ws h = writing-none b at (wordsBytes ws) (wordsBytes ws ∷ []) (sym (append-nil (wordsBytes ws))) h
+  module _ (s : List ℕ) where
+    module _ (p : Part) (j : ℕ) (w : Counting all sum (slotBytes s (drop j (slotsIn p)))) where
+      pub values-counting : j < p .len → (x : ℕ) → x ≡ shown (p .kind) (word s (p .base + p .first + j)) → (n : ℕ) → n ≡ length (encode x) → Counting all (sum + n) (slotBytes s (drop (j + 1) (slotsIn p)))
+      values-counting l x h n q = counting-next (slotBytes s (drop j (slotsIn p))) (encode (shown (p .kind) (word s (p .base + p .first + j)))) (slotBytes s (drop (j + 1) (slotsIn p))) (values-next s p j l) w n (rw h at q)
 
-module _ (b : List ℕ) (at : ℕ) (ws buf : List ℕ) (next i : ℕ) (w : Writing b at (wordsBytes ws) buf next (wordsBytes (drop i ws) ∷ [])) where
-  module _ (l : i < length ws) where
-    word-left : Writing b at (wordsBytes ws) buf next (encode (getD ws i 0) ∷ wordsBytes (drop (i + 1) ws) ∷ [])
-    word-left = writing-split w (encode (getD ws i 0)) (wordsBytes (drop (i + 1) ws)) (words-next ws i l)
+      pub values-counted : p .len ≤ j → sum ≡ length all
+      values-counted l = counting-end _ (values-end s p j l) w
 
-    pub word-room : next + length (encode (getD ws i 0)) ≤ length buf
-    word-room = writing-room word-left
+    module _ (ps : List Part) (k : ℕ) (w : Counting all sum (slotBytes s (leftAt ps k 0))) where
+      pub parts-counting : (n : ℕ) → n ≡ length (slotBytes s (slotsIn (getD ps k blank))) → Counting all (sum + n) (slotBytes s (leftAt ps (k + 1) 0))
+      parts-counting n q = counting-next (slotBytes s (leftAt ps k 0)) (slotBytes s (slotsIn (getD ps k blank))) (slotBytes s (leftAt ps (k + 1) 0)) (parts-next s ps k) w n q
 
-    pub word-written : (next′ : ℕ) (buf′ : List ℕ) → next′ ≡ next + length (encode (getD ws i 0)) → buf′ ≡ sets buf next (encode (getD ws i 0))
-        → Writing b at (wordsBytes ws) buf′ next′ (wordsBytes (drop (i + 1) ws) ∷ [])
-    word-written next′ buf′ p q = writing-next word-left (record { place = p; bytes = q })
+-- a sum is small
+words-short : (ws : List ℕ) → length (wordsBytes ws) ≤ 5 * length ws
+unfolding wordsBytes
+words-short [] = omega arith
+words-short (x ∷ ws) = omega (arith, length-append (encode x) (wordsBytes ws), encode-short x, words-short ws)
 
-  pub words-written : length ws ≤ i → Wrote b at (wordsBytes ws) next buf
-  words-written l = writing-end (writing-empty w (words-end ws i l))
+pub words-fit : (ws : List ℕ) → length ws ≤ stateLength → (sum i : ℕ) → Counting (wordsBytes ws) sum (wordsBytes (drop i ws)) → i < length ws → (n : ℕ) → n ≡ length (encode (getD ws i 0)) → Fits w64 (sum + n)
+words-fit ws m sum i w l n q = record { fits = omega (arith, words-counting (wordsBytes ws) sum ws i w l n q .whole, words-short ws) }
 
--- ---- blocks of values, from the k-th on and before the e-th
+pub values-fit : (s : List ℕ) (p : Part) → Inside p → (sum j : ℕ) → Counting (slotBytes s (slotsIn p)) sum (slotBytes s (drop j (slotsIn p))) → j < p .len → (x : ℕ) → x ≡ shown (p .kind) (word s (p .base + p .first + j)) → (n : ℕ) → n ≡ length (encode x) → Fits w64 (sum + n)
+values-fit s p i sum j w l x h n q = record { fits = omega (arith, values-counting (slotBytes s (slotsIn p)) sum s p j w l x h n q .whole, bytes-short s (slotsIn p), length-run (at-word s p j 0) (at-word s p j) 0 (p .len), i .within) }
 
-module _ (s : List ℕ) (f : ℕ → List Slot) (k e : ℕ) where
-  pub blocks-next : k < e → slotBytes s (each f k (e - k)) ≡ slotBytes s (f k) ++ slotBytes s (each f (k + 1) (e - (k + 1)))
-  unfolding each
-  blocks-next l =
-      let z : e - k ≡ suc (e - (k + 1)) = omega arith in
-      rw z (ap (slotBytes s) (rw (add-one k)) ∙ bytes-append s (f k) (each f (k + 1) (e - (k + 1))))
+-- ---- part p of the table, which is q there
 
-  pub blocks-end : e ≤ k → slotBytes s (each f k (e - k)) ≡ []
-  unfolding each slotBytes
-  blocks-end l = let z : e - k ≡ zero = omega arith in rw z
+pub part-inside : (s : List ℕ) → Stopped s → (p : Part) → Inside p → p .base + p .first + p .len ≤ length s
+part-inside s st p i = omega (arith, stopped-length s st, i .within)
 
-pub blocks-none : (s : List ℕ) (f : ℕ → List Slot) (b : List ℕ) (at k e : ℕ) → at + length (slotBytes s (each f k e)) ≤ length b → Writing b at (slotBytes s (each f k e)) b at (slotBytes s (each f k e) ∷ [])
-blocks-none s f b at k e h = writing-none b at _ (slotBytes s (each f k e) ∷ []) (sym (append-nil (slotBytes s (each f k e)))) h
+module _ (s : List ℕ) (p q : Part) (e : p ≡ q) where
+  pub values-of : (n : ℕ) → n ≡ length (slotBytes s (slotsIn p)) → n ≡ length (slotBytes s (slotsIn q))
+  values-of n h = rw e at h
 
--- all of them, from the first on
-pub blocks-first : (s : List ℕ) (f : ℕ → List Slot) (b : List ℕ) (at e : ℕ) → at + length (slotBytes s (each f 0 e)) ≤ length b → Writing b at (slotBytes s (each f 0 e)) b at (slotBytes s (each f 0 (e - 0)) ∷ [])
-blocks-first s f b at e h = let z : e - 0 ≡ e = omega arith in rw z (blocks-none s f b at 0 e h)
+  module _ (b : List ℕ) (at : ℕ) where
+    pub values-room : at + length (slotBytes s (slotsIn q)) ≤ length b → at + length (slotBytes s (slotsIn p)) ≤ length b
+    values-room l = rw e l
 
-module _ (s : List ℕ) (f : ℕ → List Slot) (b : List ℕ) (at : ℕ) (all buf : List ℕ) (next k e : ℕ) (w : Writing b at all buf next (slotBytes s (each f k (e - k)) ∷ [])) where
-  module _ (l : k < e) where
-    block-left : Writing b at all buf next (slotBytes s (f k) ∷ slotBytes s (each f (k + 1) (e - (k + 1))) ∷ [])
-    block-left = writing-split w (slotBytes s (f k)) (slotBytes s (each f (k + 1) (e - (k + 1)))) (blocks-next s f k e l)
+    pub values-saved : (n : ℕ) (b′ : List ℕ) → Wrote b at (slotBytes s (slotsIn p)) n b′ → Wrote b at (slotBytes s (slotsIn q)) n b′
+    values-saved n b′ w = rw e at w
 
-    pub block-room : next + length (slotBytes s (f k)) ≤ length buf
-    block-room = writing-room block-left
+  -- it is shown as it is
+  module _ (st : Stopped s) (i : Inside p) (r : Bool) (h : r ≡ plain (p .kind)) (t : r ≡ true) where
+    abbrev own : List ℕ
+    own = wordsBytes (take (p .base + p .first + p .len - (p .base + p .first)) (drop (p .base + p .first) s))
 
-    pub block-written : (next′ : ℕ) (buf′ : List ℕ) → Wrote buf next (slotBytes s (f k)) next′ buf′ → Writing b at all buf′ next′ (slotBytes s (each f (k + 1) (e - (k + 1))) ∷ [])
-    block-written next′ buf′ n = writing-next block-left n
+    own-bytes : own ≡ slotBytes s (slotsIn q)
+    own-bytes = part-words s (stopped-length s st) p i r h t ∙ rw e
 
-  pub blocks-written : e ≤ k → Wrote b at all next buf
-  blocks-written l = writing-end (writing-empty w (blocks-end s f k e l))
+    pub plain-counted : (n : ℕ) → n ≡ length own → n ≡ length (slotBytes s (slotsIn q))
+    plain-counted n z = z ∙ ap length own-bytes
 
--- the banks of the SPI words, and the blocks of the vCPUs
-module _ (s b : List ℕ) (at : ℕ) (all buf : List ℕ) (next k e : ℕ) where
-  pub bank-room : Writing b at all buf next (slotBytes s (each bankSlots k (e - k)) ∷ []) → k < e → next + length (slotBytes s (bankSlots k)) ≤ length buf
-  bank-room = block-room s bankSlots b at all buf next k e
+    module _ (b : List ℕ) (at : ℕ) where
+      pub plain-room : at + length (slotBytes s (slotsIn q)) ≤ length b → at + length own ≤ length b
+      plain-room l = rw own-bytes l
 
-  pub vcpu-room : Writing b at all buf next (slotBytes s (each vcpuSlots k (e - k)) ∷ []) → k < e → next + length (slotBytes s (vcpuSlots k)) ≤ length buf
-  vcpu-room = block-room s vcpuSlots b at all buf next k e
+      pub plain-saved : (n : ℕ) (b′ : List ℕ) → Wrote b at own n b′ → Wrote b at (slotBytes s (slotsIn q)) n b′
+      plain-saved n b′ w = rw own-bytes at w
 
--- ---- the header, value by value
+module _ (s : List ℕ) (st : Stopped s) (h : Shape) (sh : ShapeOf s h) where
+  pub record-uncounted : Counting (recordOf s) 0 (slotBytes s (leftAt (parts (h .count) (h .vcpus)) 0 0))
+  record-uncounted = record { whole = rw (bytes-all s st h sh) (zero-add (length (recordOf s))) }
 
-module _ (s b : List ℕ) (at : ℕ) (all buf : List ℕ) (next k e : ℕ) (w : Writing b at all buf next (slotBytes s (run Header k (e - k)) ∷ [])) (l : k < e) (v : ℕ) (h : v ≡ headerAt s k) where
-  head-bytes : slotBytes s (Header k ∷ []) ≡ encode v
-  unfolding slotBytes slotRead
-  head-bytes = rw h (append-nil (encode (headerAt s k)))
+  module _ (sum k : ℕ) (w : Counting (recordOf s) sum (slotBytes s (leftAt (parts (h .count) (h .vcpus)) k 0))) where
+    pub record-fits : (n : ℕ) → n ≡ length (slotBytes s (slotsIn (getD (parts (h .count) (h .vcpus)) k blank))) → Fits w64 (sum + n)
+    record-fits n q = record { fits = omega (arith, parts-counting (recordOf s) sum s (parts (h .count) (h .vcpus)) k w n q .whole, record-most s st h sh) }
 
-  pub head-room : next + length (encode v) ≤ length buf
-  head-room = rw head-bytes at (block-room s (λ j. Header j ∷ []) b at all buf next k e w l)
+    pub record-counted : (n : ℕ) → n ≡ length (parts (h .count) (h .vcpus)) → n ≤ k → sum ≡ length (recordOf s)
+    record-counted n e l = counting-end (recordOf s) sum _ (parts-end s (parts (h .count) (h .vcpus)) k n e l) w
 
-  pub head-written : (next′ : ℕ) (buf′ : List ℕ) → next′ ≡ next + length (encode v) → buf′ ≡ sets buf next (encode v)
-      → Writing b at all buf′ next′ (slotBytes s (run Header (k + 1) (e - (k + 1))) ∷ [])
-  head-written next′ buf′ p q =
-      block-written s (λ j. Header j ∷ []) b at all buf next k e w l next′ buf′ (rw head-bytes (record { place = p; bytes = q }))
+-- ---- writing: of the bytes `all`, to be written to b from at₀ on, `left` is left, to be written to buf from `at` on
 
--- ---- the bank of an SPI word, which starts at p
+pub record Writing (b : List ℕ) (at₀ : ℕ) (all buf : List ℕ) (at : ℕ) (left : List ℕ) : Type 0 where
+  pub bytes : sets buf at left ≡ sets b at₀ all
+  pub room : at + length left ≤ length buf
+  pub place : at + length left ≡ at₀ + length all
+  pub same : length buf ≡ length b
 
--- the flags of a bank that starts at p
-module _ (s : List ℕ) (size : length s ≡ stateLength) (p : ℕ) (l : p + 16 ≤ stateLength) (b : List ℕ) (at : ℕ) (room : at + length (flagsFrom s p) ≤ length b) where
-  flags-none : Writing b at (flagsFrom s p) b at (flagParts s p)
-  flags-none = writing-none b at _ (flagParts s p) (flag-bytes s p size l) room
+pub writing-none : (b : List ℕ) (at : ℕ) (all : List ℕ) → at + length all ≤ length b → Writing b at all b at all
+writing-none b at all l = record { bytes = refl; room = l; place = refl; same = refl }
 
-  pub enables-room : at + length (wordsBytes (take (p + latchField - p) (drop p s))) ≤ length b
-  enables-room = writing-room flags-none
+module _ (b : List ℕ) (at₀ : ℕ) (all buf : List ℕ) (at : ℕ) where
+  writing-room : (left xs ys : List ℕ) → left ≡ xs ++ ys → Writing b at₀ all buf at left → at + length xs ≤ length buf
+  writing-room left xs ys e w = omega (arith, w .room, ap length e, length-append xs ys)
 
-  module _ (at₁ : ℕ) (b₁ : List ℕ) (w₁ : Wrote b at (wordsBytes (take (p + latchField - p) (drop p s))) at₁ b₁) (x : ℕ) (hx : x ≡ word s (p + latchField)) where
-    flags-enables : Writing b at (flagsFrom s p) b₁ at₁ (encode x ∷ wordsBytes (take (p + edgeField - (p + activeField)) (drop (p + activeField) s)) ∷ [])
-    flags-enables = rw hx (writing-next flags-none w₁)
+  writing-next : (left xs ys : List ℕ) → left ≡ xs ++ ys → Writing b at₀ all buf at left → (at′ : ℕ) → at′ ≡ at + length xs → (buf′ : List ℕ) → buf′ ≡ sets buf at xs → Writing b at₀ all buf′ at′ ys
+  writing-next left xs ys e w at′ p buf′ q = record {
+    bytes = sets-next buf buf′ at at′ xs ys p q ∙ (rw e at (w .bytes));
+    room = rw (q, length-sets buf at xs) (omega (arith, w .room, ap length e, length-append xs ys));
+    place = omega (arith, w .place, ap length e, length-append xs ys);
+    same = rw (q, length-sets buf at xs) (w .same);
+  }
 
-    pub latch-room : at₁ + length (encode x) ≤ length b₁
-    latch-room = writing-room flags-enables
+  writing-end : (left : List ℕ) → left ≡ [] → Writing b at₀ all buf at left → Wrote b at₀ all at buf
+  writing-end left e w = record { place = omega (arith, w .place, ap length e); bytes = rw e at (w .bytes) }
 
-    module _ (at₂ : ℕ) (b₂ : List ℕ) (p₂ : at₂ ≡ at₁ + length (encode x)) (q₂ : b₂ ≡ sets b₁ at₁ (encode x)) where
-      flags-latch : Writing b at (flagsFrom s p) b₂ at₂ (wordsBytes (take (p + edgeField - (p + activeField)) (drop (p + activeField) s)) ∷ [])
-      flags-latch = writing-next flags-enables (record { place = p₂; bytes = q₂ })
+  module _ (ws : List ℕ) (i : ℕ) (w : Writing b at₀ all buf at (wordsBytes (drop i ws))) where
+    pub word-room : i < length ws → at + length (encode (getD ws i 0)) ≤ length buf
+    word-room l = writing-room (wordsBytes (drop i ws)) (encode (getD ws i 0)) (wordsBytes (drop (i + 1) ws)) (words-next ws i l) w
 
-      pub active-room : at₂ + length (wordsBytes (take (p + edgeField - (p + activeField)) (drop (p + activeField) s))) ≤ length b₂
-      active-room = writing-room flags-latch
+    pub word-written : i < length ws → (at′ : ℕ) → at′ ≡ at + length (encode (getD ws i 0)) → (buf′ : List ℕ) → buf′ ≡ sets buf at (encode (getD ws i 0)) → Writing b at₀ all buf′ at′ (wordsBytes (drop (i + 1) ws))
+    word-written l = writing-next (wordsBytes (drop i ws)) (encode (getD ws i 0)) (wordsBytes (drop (i + 1) ws)) (words-next ws i l) w
 
-      pub flags-written : (at₃ : ℕ) (b₃ : List ℕ) → Wrote b₂ at₂ (wordsBytes (take (p + edgeField - (p + activeField)) (drop (p + activeField) s))) at₃ b₃ → Wrote b at (flagsFrom s p) at₃ b₃
-      flags-written at₃ b₃ w = writing-last flags-latch w
+    pub words-written : length ws ≤ i → Wrote b at₀ all at buf
+    words-written l = writing-end _ (words-end ws i l) w
 
-module _ (s : List ℕ) (size : length s ≡ stateLength) (w : ℕ) (l : w < 32) (p : ℕ) (e : p ≡ 256 + 16 * w) (b : List ℕ) (at : ℕ) (room : at + length (slotBytes s (bankSlots w)) ≤ length b) where
-  bank-none : Writing b at (slotBytes s (bankSlots w)) b at (bankParts s p)
-  bank-none = writing-none b at _ (bankParts s p) (bank-bytes s size w p e l) room
+  module _ (s : List ℕ) where
+    module _ (p : Part) (j : ℕ) (w : Writing b at₀ all buf at (slotBytes s (drop j (slotsIn p)))) where
+      module _ (l : j < p .len) (x : ℕ) (h : x ≡ shown (p .kind) (word s (p .base + p .first + j))) where
+        pub value-room : at + length (encode x) ≤ length buf
+        value-room = writing-room (slotBytes s (drop j (slotsIn p))) (encode x) (slotBytes s (drop (j + 1) (slotsIn p))) (rw h (values-next s p j l)) w
 
-  pub flags-room : at + length (flagsFrom s p) ≤ length b
-  flags-room = writing-room bank-none
+        pub value-written : (at′ : ℕ) → at′ ≡ at + length (encode x) → (buf′ : List ℕ) → buf′ ≡ sets buf at (encode x) → Writing b at₀ all buf′ at′ (slotBytes s (drop (j + 1) (slotsIn p)))
+        value-written = writing-next (slotBytes s (drop j (slotsIn p))) (encode x) (slotBytes s (drop (j + 1) (slotsIn p))) (rw h (values-next s p j l)) w
 
-  module _ (at₁ : ℕ) (b₁ : List ℕ) (w₁ : Wrote b at (flagsFrom s p) at₁ b₁) (x : ℕ) (hx : x ≡ spread (word s (p + edgeField))) where
-    bank-flags : Writing b at (slotBytes s (bankSlots w)) b₁ at₁ (encode x ∷ encode (spread (word s (p + (edgeField + 1)))) ∷ [])
-    bank-flags = rw hx (writing-next bank-none w₁)
+      pub values-written : p .len ≤ j → Wrote b at₀ all at buf
+      values-written l = writing-end _ (values-end s p j l) w
 
-    pub low-room : at₁ + length (encode x) ≤ length b₁
-    low-room = writing-room bank-flags
+    module _ (ps : List Part) (k : ℕ) (w : Writing b at₀ all buf at (slotBytes s (leftAt ps k 0))) where
+      pub part-room : at + length (slotBytes s (slotsIn (getD ps k blank))) ≤ length buf
+      part-room = writing-room (slotBytes s (leftAt ps k 0)) (slotBytes s (slotsIn (getD ps k blank))) (slotBytes s (leftAt ps (k + 1) 0)) (parts-next s ps k) w
 
-    module _ (at₂ : ℕ) (b₂ : List ℕ) (p₂ : at₂ ≡ at₁ + length (encode x)) (q₂ : b₂ ≡ sets b₁ at₁ (encode x)) (y : ℕ) (hy : y ≡ spread (word s (p + (edgeField + 1)))) where
-      bank-low : Writing b at (slotBytes s (bankSlots w)) b₂ at₂ (encode y ∷ [])
-      bank-low = rw hy (writing-next bank-flags (record { place = p₂; bytes = q₂ }))
+      pub part-written : (at′ : ℕ) (buf′ : List ℕ) → Wrote buf at (slotBytes s (slotsIn (getD ps k blank))) at′ buf′ → Writing b at₀ all buf′ at′ (slotBytes s (leftAt ps (k + 1) 0))
+      part-written at′ buf′ m = writing-next (slotBytes s (leftAt ps k 0)) (slotBytes s (slotsIn (getD ps k blank))) (slotBytes s (leftAt ps (k + 1) 0)) (parts-next s ps k) w at′ (m .place) buf′ (m .bytes)
 
-      pub high-room : at₂ + length (encode y) ≤ length b₂
-      high-room = writing-room bank-low
+module _ (s : List ℕ) (st : Stopped s) (h : Shape) (sh : ShapeOf s h) where
+  pub record-unwritten : (b : List ℕ) → length (recordOf s) ≤ length b → Writing b 0 (recordOf s) b 0 (slotBytes s (leftAt (parts (h .count) (h .vcpus)) 0 0))
+  record-unwritten b l = rw (bytes-all s st h sh) (writing-none b 0 (recordOf s) (omega arith))
 
-      pub bank-written : (at₃ : ℕ) (b₃ : List ℕ) → at₃ ≡ at₂ + length (encode y) → b₃ ≡ sets b₂ at₂ (encode y) → Wrote b at (slotBytes s (bankSlots w)) at₃ b₃
-      bank-written at₃ b₃ p q = writing-last bank-low (record { place = p; bytes = q })
+  module _ (b buf : List ℕ) (at k n : ℕ) (w : Writing b 0 (recordOf s) buf at (slotBytes s (leftAt (parts (h .count) (h .vcpus)) k 0))) (e : n ≡ length (parts (h .count) (h .vcpus))) (l : n ≤ k) where
+    pub record-written : Wrote b 0 (recordOf s) at buf
+    record-written = writing-end b 0 (recordOf s) buf at _ (parts-end s (parts (h .count) (h .vcpus)) k n e l) w
 
--- ---- the block of a vCPU, which starts at p
-
--- CTLR as it is read is a number of 32 bits
-pub ctlr-fits : (s : List ℕ) (v p : ℕ) → p ≡ block v → word s (ctlrAt v) ≤ iccCtlrBits → Fits w32 (iccCtlrFixed + word s (p + 20))
-ctlr-fits s v p e l = record { fits = rw e (omega arith) }
-
-module _ (s : List ℕ) (size : length s ≡ stateLength) (v : ℕ) (l : v < mostVcpus) (p : ℕ) (e : p ≡ block v) (b : List ℕ) (at : ℕ) (room : at + length (slotBytes s (vcpuSlots v)) ≤ length b) where
-  vcpu-none : Writing b at (slotBytes s (vcpuSlots v)) b at (blockParts s p)
-  vcpu-none = writing-none b at _ (blockParts s p) (block-bytes s size v p e l) room
-
-  pub frame-room : at + length (encode (word s (p + 18))) ≤ length b
-  frame-room = writing-room vcpu-none
-
-  module _ (at₁ : ℕ) (b₁ : List ℕ) (p₁ : at₁ ≡ at + length (encode (word s (p + 18)))) (q₁ : b₁ ≡ sets b at (encode (word s (p + 18)))) where
-    pub private-room : at₁ + length (privateBytes s p) ≤ length b₁
-    private-room = writing-room (writing-next vcpu-none (record { place = p₁; bytes = q₁ }))
-
-    module _ (at₂ : ℕ) (b₂ : List ℕ) (w₂ : Wrote b₁ at₁ (privateBytes s p) at₂ b₂) where
-      vcpu-private : Writing b at (slotBytes s (vcpuSlots v)) b₂ at₂ (encode (word s (p + 19)) ∷ encode (iccCtlrFixed + word s (p + 20)) ∷ pointBytes s p ∷ [])
-      vcpu-private = writing-next (writing-next vcpu-none (record { place = p₁; bytes = q₁ })) w₂
-
-      pub pmr-room : at₂ + length (encode (word s (p + 19))) ≤ length b₂
-      pmr-room = writing-room vcpu-private
-
-      module _ (at₃ : ℕ) (b₃ : List ℕ) (p₃ : at₃ ≡ at₂ + length (encode (word s (p + 19)))) (q₃ : b₃ ≡ sets b₂ at₂ (encode (word s (p + 19)))) where
-        pub ctlr-room : at₃ + length (encode (iccCtlrFixed + word s (p + 20))) ≤ length b₃
-        ctlr-room = writing-room (writing-next vcpu-private (record { place = p₃; bytes = q₃ }))
-
-        module _ (at₄ : ℕ) (b₄ : List ℕ) (p₄ : at₄ ≡ at₃ + length (encode (iccCtlrFixed + word s (p + 20)))) (q₄ : b₄ ≡ sets b₃ at₃ (encode (iccCtlrFixed + word s (p + 20)))) where
-          vcpu-ctlr : Writing b at (slotBytes s (vcpuSlots v)) b₄ at₄ (pointBytes s p ∷ [])
-          vcpu-ctlr = writing-next (writing-next vcpu-private (record { place = p₃; bytes = q₃ })) (record { place = p₄; bytes = q₄ })
-
-          pub points-room : at₄ + length (pointBytes s p) ≤ length b₄
-          points-room = writing-room vcpu-ctlr
-
-          pub vcpu-written : (at₅ : ℕ) (b₅ : List ℕ) → Wrote b₄ at₄ (pointBytes s p) at₅ b₅ → Wrote b at (slotBytes s (vcpuSlots v)) at₅ b₅
-          vcpu-written at₅ b₅ w = writing-last vcpu-ctlr w
-
--- ---- the whole record
-
-module _ (s : List ℕ) (h : Stopped s) (b : List ℕ) (room : length (recordOf s) ≤ length b) where
-  record-none : (m : ℕ) → m ≡ spis (count s) → Writing b 0 (recordOf s) b 0 (recordParts s (count s) (vcpus s) m)
-  record-none m e =
-      let r = stopped-ready s h in
-      writing-none b 0 _ (recordParts s (count s) (vcpus s) m) (record-is s r ∙ slots-bytes s (r .size) (count s) (vcpus s) m e) (omega arith)
-
-  pub header-room : 0 + length (slotBytes s (run Header 0 (3 + vcpus s))) ≤ length b
-  header-room = writing-room (record-none (spis (count s)) refl)
-
-  module _ (at₁ : ℕ) (b₁ : List ℕ) (w₁ : Wrote b 0 (slotBytes s (run Header 0 (3 + vcpus s))) at₁ b₁) where
-    pub control-room : at₁ + length (encode (gicdCtlrFixed + word s enablesAt)) ≤ length b₁
-    control-room = writing-room (writing-next (record-none (spis (count s)) refl) w₁)
-
-    module _ (at₂ : ℕ) (b₂ : List ℕ) (p₂ : at₂ ≡ at₁ + length (encode (gicdCtlrFixed + word s enablesAt))) (q₂ : b₂ ≡ sets b₁ at₁ (encode (gicdCtlrFixed + word s enablesAt))) where
-      record-control : (m : ℕ) → m ≡ spis (count s)
-          → Writing b 0 (recordOf s) b₂ at₂ (encode (word s distributorStatusAt) ∷ slotBytes s (each bankSlots 1 (spiWords (count s))) ∷ routeBytes s m ∷ slotBytes s (each vcpuSlots 0 (vcpus s)) ∷ [])
-      record-control m e = writing-next (writing-next (record-none m e) w₁) (record { place = p₂; bytes = q₂ })
-
-      pub status-room : at₂ + length (encode (word s distributorStatusAt)) ≤ length b₂
-      status-room = writing-room (record-control (spis (count s)) refl)
-
-      module _ (at₃ : ℕ) (b₃ : List ℕ) (p₃ : at₃ ≡ at₂ + length (encode (word s distributorStatusAt))) (q₃ : b₃ ≡ sets b₂ at₂ (encode (word s distributorStatusAt))) where
-        record-status : (m : ℕ) → m ≡ spis (count s)
-            → Writing b 0 (recordOf s) b₃ at₃ (slotBytes s (each bankSlots 1 (spiWords (count s))) ∷ routeBytes s m ∷ slotBytes s (each vcpuSlots 0 (vcpus s)) ∷ [])
-        record-status m e = writing-next (record-control m e) (record { place = p₃; bytes = q₃ })
-
-        pub banks-room : at₃ + length (slotBytes s (each bankSlots 1 (spiWords (count s)))) ≤ length b₃
-        banks-room = writing-room (record-status (spis (count s)) refl)
-
-        module _ (at₄ : ℕ) (b₄ : List ℕ) (w₄ : Wrote b₃ at₃ (slotBytes s (each bankSlots 1 (spiWords (count s)))) at₄ b₄) (m : ℕ) (e : m ≡ spis (count s)) where
-          pub routes-room : at₄ + length (routeBytes s m) ≤ length b₄
-          routes-room = writing-room (writing-next (record-status m e) w₄)
-
-          module _ (at₅ : ℕ) (b₅ : List ℕ) (w₅ : Wrote b₄ at₄ (routeBytes s m) at₅ b₅) where
-            record-routes : Writing b 0 (recordOf s) b₅ at₅ (slotBytes s (each vcpuSlots 0 (vcpus s)) ∷ [])
-            record-routes = writing-next (writing-next (record-status m e) w₄) w₅
-
-            pub vcpus-room : at₅ + length (slotBytes s (each vcpuSlots 0 (vcpus s))) ≤ length b₅
-            vcpus-room = writing-room record-routes
-
-            pub record-written : (at₆ : ℕ) (b₆ : List ℕ) → Wrote b₅ at₅ (slotBytes s (each vcpuSlots 0 (vcpus s))) at₆ b₆ → Wrote b 0 (recordOf s) at₆ b₆
-            record-written at₆ b₆ w = writing-last record-routes w
-
--- and its length is within bounds
-pub record-most : (s b : List ℕ) (n : ℕ) (b′ : List ℕ) → Stopped s → Wrote b 0 (recordOf s) n b′ → n ≤ 8210
-record-most s b n b′ h w = omega (arith, w .place, record-short s h, length-slots (count s) (vcpus s), stopped-sized s h .most, stopped-sized s h .few)
+    pub written-most : at ≤ 8210
+    written-most = omega (arith, record-written .place, record-most s st h sh)

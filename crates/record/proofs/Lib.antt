@@ -1,17 +1,15 @@
 -- The laws of the record.
 pub mod Groups
 pub mod Bytes
-pub mod Writing
 pub mod Lists
+pub mod Walking
 pub mod Order
 pub mod Choices
 pub mod Shapes
 pub mod Standing
 pub mod Saving
-pub mod Parts
 pub mod Filling
-pub mod Counting
 pub mod Loading
-pub mod Turns
-pub mod Runs
+pub mod Cleared
+pub mod Walks
 pub mod Settled

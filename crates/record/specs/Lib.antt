@@ -1,5 +1,5 @@
 -- What the contracts cite beside the definitions of model.
 pub mod Numbers
-pub mod Slots
+pub mod Table
+pub mod Walked
 pub mod Written
-pub mod Loaded

@@ -1,7 +1,5 @@
-// The record: seven-bit numbers, save, restore.
-pub mod length;
-pub mod load;
+// The record: seven-bit numbers, the table of its parts, save, restore.
 pub mod number;
 pub mod restore;
 pub mod save;
-pub mod slots;
+pub mod table;

@@ -3,75 +3,90 @@ ghost use mathlib.Core.Path.{_≡_};
 ghost use Prim.Native.Nat.{_+_, _≤_, _<_};
 ghost use lib.ListN.{length, drop};
 ghost use lib.Seq.{sets};
-ghost use Rattle.model.specs.Record.{encode, readGroups, decodeNumber};
-ghost use Rattle.record.specs.Numbers.{GroupUnit, Ends, under, Answers};
+ghost use Rattle.model.specs.Record.{encode};
+ghost use Rattle.record.specs.Numbers.{Begins, Resumes, Ends, readOn, told};
 
-// A place in a record.
+// A place in some bytes.
 pub struct Cursor {
     pub at: usize,
+}
+
+// The groups of a number that are read so far: the sum they make, and what a 1 of the next group counts.
+pub struct Begun {
+    pub sum: u32,
+    pub unit: u32,
 }
 
 // What a 1 of the fifth group counts: no group follows it.
 const LAST_UNIT: u32 = 0x1000_0000;
 
-// What reading a number finds: its value and the place after it, or no number.
+// What reading a number finds: its value and the place after it; that the bytes end before the number does; or no number.
 pub enum Number {
     Value(u32, Cursor),
+    Cut(Begun),
     Broken,
 }
 
 // ---- reading
 
-// The last group `b` of a number whose groups before it make `x`: each 1 of it counts `unit`. Not 0, or the form were not the shortest, and at most 2^32 - 1 in all.
-fn ended(x: u32, unit: u32, b: u32, next: usize) -> Number
-    requires { ⌜ GroupUnit unit × (x < unit) × (b < 128) ⌝ }
-    ensures { λ r. ⌜ Ends x unit b next r ⌝ }
+// The last group `b` of a number. The form is the shortest, so a group after the first is not 0; the number is at most 2^32 - 1.
+fn last_group(begun: Begun, b: u32, next: usize) -> Number
+    requires { ⌜ Begins begun × (b < 128) ⌝ }
+    ensures { λ r. ⌜ Ends begun b next r ⌝ }
 {
-    if b == 0 {
+    if (b == 0) & (begun.unit != 1) {
         return Number::Broken;
     }
-    if (unit == LAST_UNIT) & (b >= 16) {
+    if (begun.unit == LAST_UNIT) & (b >= 16) {
         return Number::Broken;
     }
-    Number::Value(x + unit * b, Cursor { at: next })
+    Number::Value(begun.sum + begun.unit * b, Cursor { at: next })
 }
 
-// The number of at most five groups whose first is `low`, the others from `at` on.
-fn read_on(src: &[u8], at: usize, low: u32) -> Number
-    requires { ⌜ low < 128 ⌝ }
-    ensures { λ r. ⌜ Answers (now (src .entry)) at (under low 128 (readGroups 4 (drop at (now (src .entry))))) r ⌝ }
+// The number whose first groups are read, the others from a place on.
+pub fn read_on(src: &[u8], c: Cursor, first: Begun) -> Number
+    requires { ⌜ Begins first ⌝ }
+    ensures { λ r. ⌜ (told (now (src .entry)) r ≡ readOn (first .sum) (first .unit) (drop (c .at) (now (src .entry)))) × Resumes r ⌝ }
 {
-    let mut x = low;
-    let mut unit: u32 = 128;
-    let mut i = at;
+    let mut begun = first;
+    let mut i = c.at;
     while i < src.len() {
         let b = wide(src[i]);
         if b < 128 {
-            return ended(x, unit, b, i + 1);
+            return last_group(begun, b, i + 1);
         }
-        if unit == LAST_UNIT {
+        if begun.unit == LAST_UNIT {
             return Number::Broken;
         }
-        x += unit * (b - 128);
-        unit = unit * 128;
+        begun = Begun {
+            sum: begun.sum + begun.unit * (b - 128),
+            unit: begun.unit * 128,
+        };
         i += 1;
     }
-    Number::Broken
+    Number::Cut(begun)
 }
 
-// The number that stands at a place.
+// The number at a place. Most have one group.
 pub fn read_number(src: &[u8], c: Cursor) -> Number
-    ensures { λ r. ⌜ Answers (now (src .entry)) (c .at) (decodeNumber (drop (c .at) (now (src .entry)))) r ⌝ }
+    ensures { λ r. ⌜ (told (now (src .entry)) r ≡ readOn 0 1 (drop (c .at) (now (src .entry)))) × Resumes r ⌝ }
 {
     let at = c.at;
     if src.len() <= at {
-        return Number::Broken;
+        return Number::Cut(Begun { sum: 0, unit: 1 });
     }
     let b = wide(src[at]);
     if b < 128 {
         return Number::Value(b, Cursor { at: at + 1 });
     }
-    read_on(src, at + 1, b - 128)
+    read_on(
+        src,
+        Cursor { at: at + 1 },
+        Begun {
+            sum: b - 128,
+            unit: 128,
+        },
+    )
 }
 
 fn wide(x: u8) -> u32

@@ -1,50 +1,109 @@
 // Save: there is room for the whole record before its first byte is written.
-use crate::length::has_room;
+use crate::number::number_length;
 use crate::number::write_number;
-use crate::slots::header_at;
-use crate::slots::spi_count;
+use crate::table::Part;
+use crate::table::Shape;
+use crate::table::is_plain;
+use crate::table::part_at;
+use crate::table::part_count;
+use crate::table::shape_of;
+use crate::table::value_at;
+use crate::table::value_count;
 use model::Answer;
 use model::Errno;
 use model::Phase;
-use model::layout::ACTIVE;
-use model::layout::BPR0;
-use model::layout::COUNT;
-use model::layout::CTLR;
-use model::layout::EDGES;
-use model::layout::ENABLES;
-use model::layout::FRAME_STATUS;
-use model::layout::IGRPEN0;
-use model::layout::LATCH;
-use model::layout::PMR;
-use model::layout::ROUTES;
-use model::layout::STATUS;
-use model::layout::VCPUS;
-use model::values::GICD_CTLR_FIXED;
-use model::values::ICC_CTLR_FIXED;
-use state::VcpuIndex;
-use state::block_at;
 use state::in_phase;
 use state::is_sound;
-use state::spi_bank_at;
-use words::config_of;
 ghost use mathlib.Core.Path.{_≡_};
 ghost use mathlib.Core.List.{[], _∷_};
 ghost use Prim.Native.Nat.{_+_, _≤_, _<_};
-ghost use lib.ListN.{length};
-ghost use Rattle.model.specs.Words.{each};
-ghost use Rattle.model.specs.Values.{iccCtlrBits};
-ghost use Rattle.model.specs.Layout.{stateLength, mostVcpus, word, vcpus, latchField, ctlrAt};
+ghost use lib.Dec.{leb};
+ghost use lib.ListN.{length, getD};
+ghost use Rattle.model.specs.Layout.{stateLength};
 ghost use Rattle.model.specs.Refusals.{number};
-ghost use Rattle.model.specs.Record.{spiWords, recordOf};
+ghost use Rattle.model.specs.Record.{recordOf};
 ghost use Rattle.model.specs.Calls.{Does, call, save};
 ghost use Rattle.model.specs.Demands.{Stopped};
-ghost use Rattle.record.specs.Slots.{run, bankSlots, vcpuSlots, slotBytes, frontLength};
-ghost use Rattle.record.specs.Written.{wordsBytes, flagsFrom, Wrote};
-ghost use Rattle.record.specs.declared.slots.Slot.the-variants.{Header};
+ghost use Rattle.record.specs.Table.{slotBytes, slotsIn, blank, parts, ShapeOf, Inside};
+ghost use Rattle.record.specs.Written.{wordsBytes, Small, Wrote, frontLength};
 
-// ---- the parts of the record, each written from `at` on; the answer is the place after it
+// ---- the length of the record
 
-// Words that are shown as themselves.
+// The bytes of words that are shown as they are.
+fn words_length(words: &[u32]) -> usize
+    requires { ⌜ length (now words) ≤ stateLength ⌝ }
+    ensures { λ r. ⌜ r ≡ length (wordsBytes (now (words .entry))) ⌝ }
+{
+    let mut sum: usize = 0;
+    let mut i: usize = 0;
+    while i < words.len() {
+        sum += number_length(words[i]);
+        i += 1;
+    }
+    sum
+}
+
+// The bytes of the values of a part.
+fn values_length(s: &[u32], part: Part) -> usize
+    requires { ⌜ (length (now s) ≡ stateLength) × Inside part × Small (now s) part ⌝ }
+    ensures { λ r. ⌜ r ≡ length (slotBytes (now (s .entry)) (slotsIn part)) ⌝ }
+{
+    let kind = part.kind;
+    let at = part.base + part.first;
+    let mut sum: usize = 0;
+    let mut j: usize = 0;
+    while j < part.len {
+        sum += number_length(value_at(s, kind, at + j));
+        j += 1;
+    }
+    sum
+}
+
+// The bytes of part `k`.
+fn part_length(s: &[u32], shape: Shape, k: usize) -> usize
+    requires { ⌜ Stopped (now s) × ShapeOf (now s) shape × (k < length (parts (shape .count) (shape .vcpus))) ⌝ }
+    ensures { λ r. ⌜ r ≡ length (slotBytes (now (s .entry)) (slotsIn (getD (parts (shape .count) (shape .vcpus)) k blank))) ⌝ }
+{
+    let part = part_at(shape, k);
+    let kind = part.kind;
+    let at = part.base + part.first;
+    let end = at + part.len;
+    if is_plain(kind) {
+        return words_length(&s[at..end]);
+    }
+    values_length(s, part)
+}
+
+// The bytes of all parts.
+fn record_length(s: &[u32], shape: Shape) -> usize
+    requires { ⌜ Stopped (now s) × ShapeOf (now s) shape ⌝ }
+    ensures { λ r. ⌜ r ≡ length (recordOf (now (s .entry))) ⌝ }
+{
+    let end = part_count(shape);
+    let mut sum: usize = 0;
+    let mut k: usize = 0;
+    while k < end {
+        sum += part_length(s, shape, k);
+        k += 1;
+    }
+    sum
+}
+
+// Whether `len` bytes are enough for the record: a value has at most five, so only for a shorter buffer are they counted.
+fn has_room(s: &[u32], len: usize) -> bool
+    requires { ⌜ Stopped (now s) ⌝ }
+    ensures { λ r. ⌜ r ≡ leb (length (recordOf (now (s .entry)))) len ⌝ }
+{
+    let shape = shape_of(s);
+    if 5 * value_count(shape) <= len {
+        return true;
+    }
+    record_length(s, shape) <= len
+}
+
+// ---- the record: each function writes from `at` on, and answers the place after it
+
+// Words that are shown as they are.
 fn save_words(buf: &mut [u8], at: usize, words: &[u32]) -> usize
     requires { ⌜ at + length (wordsBytes (now words)) ≤ length (now buf) ⌝ }
     ensures { λ r. ⌜ Wrote (now (buf .entry)) at (wordsBytes (now (words .entry))) r (now (buf .exit)) ⌝ }
@@ -58,90 +117,35 @@ fn save_words(buf: &mut [u8], at: usize, words: &[u32]) -> usize
     next
 }
 
-// The header: version, count, vCPUs, each affinity.
-fn save_header(buf: &mut [u8], at: usize, s: &[u32], n: usize) -> usize
-    requires { ⌜ (length (now s) ≡ stateLength) × (n ≤ mostVcpus) × (at + length (slotBytes (now s) (run Header 0 (3 + n))) ≤ length (now buf)) ⌝ }
-    ensures { λ r. ⌜ Wrote (now (buf .entry)) at (slotBytes (now (s .entry)) (run Header 0 (3 + n))) r (now (buf .exit)) ⌝ }
+// The values of a part.
+fn save_values(buf: &mut [u8], at: usize, s: &[u32], part: Part) -> usize
+    requires { ⌜ (length (now s) ≡ stateLength) × Inside part × Small (now s) part × (at + length (slotBytes (now s) (slotsIn part)) ≤ length (now buf)) ⌝ }
+    ensures { λ r. ⌜ Wrote (now (buf .entry)) at (slotBytes (now (s .entry)) (slotsIn part)) r (now (buf .exit)) ⌝ }
 {
-    let end = 3 + n;
+    let kind = part.kind;
+    let from = part.base + part.first;
     let mut next = at;
-    let mut k: usize = 0;
-    while k < end {
-        next = write_number(buf, next, header_at(s, k));
-        k += 1;
+    let mut j: usize = 0;
+    while j < part.len {
+        next = write_number(buf, next, value_at(s, kind, from + j));
+        j += 1;
     }
     next
 }
 
-// What the record says of the latches of a bank: the latch itself, not pending, in which the line of a level interrupt counts too.
-fn latch_at(s: &[u32], bank: usize) -> u32
-    requires { ⌜ (length (now s) ≡ stateLength) × (bank + 16 ≤ stateLength) ⌝ }
-    ensures { λ r. ⌜ r ≡ word (now (s .entry)) (bank + latchField) ⌝ }
+// Part `k`.
+fn save_part(buf: &mut [u8], at: usize, s: &[u32], shape: Shape, k: usize) -> usize
+    requires { ⌜ Stopped (now s) × ShapeOf (now s) shape × (k < length (parts (shape .count) (shape .vcpus))) × (at + length (slotBytes (now s) (slotsIn (getD (parts (shape .count) (shape .vcpus)) k blank))) ≤ length (now buf)) ⌝ }
+    ensures { λ r. ⌜ Wrote (now (buf .entry)) at (slotBytes (now (s .entry)) (slotsIn (getD (parts (shape .count) (shape .vcpus)) k blank))) r (now (buf .exit)) ⌝ }
 {
-    s[bank + LATCH]
-}
-
-// The flags and priorities of a bank, which start at a place.
-fn save_flags(buf: &mut [u8], at: usize, s: &[u32], bank: usize) -> usize
-    requires { ⌜ (length (now s) ≡ stateLength) × (bank + 16 ≤ stateLength) × (at + length (flagsFrom (now s) bank) ≤ length (now buf)) ⌝ }
-    ensures { λ r. ⌜ Wrote (now (buf .entry)) at (flagsFrom (now (s .entry)) bank) r (now (buf .exit)) ⌝ }
-{
-    let latch = save_words(buf, at, &s[bank..bank + LATCH]);
-    let active = write_number(buf, latch, latch_at(s, bank));
-    save_words(buf, active, &s[bank + ACTIVE..bank + EDGES])
-}
-
-// The bank of SPI word `w`: flags and priorities, then the edge flags as ICFGR has them.
-fn save_bank(buf: &mut [u8], at: usize, s: &[u32], w: usize) -> usize
-    requires { ⌜ (length (now s) ≡ stateLength) × (w < 32) × (at + length (slotBytes (now s) (bankSlots w)) ≤ length (now buf)) ⌝ }
-    ensures { λ r. ⌜ Wrote (now (buf .entry)) at (slotBytes (now (s .entry)) (bankSlots w)) r (now (buf .exit)) ⌝ }
-{
-    let bank = spi_bank_at(w);
-    let low = save_flags(buf, at, s, bank);
-    let high = write_number(buf, low, config_of(s[bank + EDGES]));
-    write_number(buf, high, config_of(s[bank + (EDGES + 1)]))
-}
-
-// The banks of all SPI words.
-fn save_banks(buf: &mut [u8], at: usize, s: &[u32], count: usize) -> usize
-    requires { ⌜ (length (now s) ≡ stateLength) × (count ≤ 1024) × (at + length (slotBytes (now s) (each bankSlots 1 (spiWords count))) ≤ length (now buf)) ⌝ }
-    ensures { λ r. ⌜ Wrote (now (buf .entry)) at (slotBytes (now (s .entry)) (each bankSlots 1 (spiWords count))) r (now (buf .exit)) ⌝ }
-{
-    let end = count / 32;
-    let mut next = at;
-    let mut w: usize = 1;
-    while w < end {
-        next = save_bank(buf, next, s, w);
-        w += 1;
+    let part = part_at(shape, k);
+    let kind = part.kind;
+    let from = part.base + part.first;
+    let end = from + part.len;
+    if is_plain(kind) {
+        return save_words(buf, at, &s[from..end]);
     }
-    next
-}
-
-// The block of vCPU `v`: STATUSR, its bank without the edge flags, its CPU interface.
-fn save_vcpu(buf: &mut [u8], at: usize, s: &[u32], v: VcpuIndex) -> usize
-    requires { ⌜ (length (now s) ≡ stateLength) × (v .0 < mostVcpus) × (word (now s) (ctlrAt (v .0)) ≤ iccCtlrBits) × (at + length (slotBytes (now s) (vcpuSlots (v .0))) ≤ length (now buf)) ⌝ }
-    ensures { λ r. ⌜ Wrote (now (buf .entry)) at (slotBytes (now (s .entry)) (vcpuSlots (v .0))) r (now (buf .exit)) ⌝ }
-{
-    let block = block_at(v);
-    let bank = write_number(buf, at, s[block + FRAME_STATUS]);
-    let pmr = save_words(buf, bank, &s[block..block + EDGES]);
-    let ctlr = write_number(buf, pmr, s[block + PMR]);
-    let points = write_number(buf, ctlr, ICC_CTLR_FIXED + s[block + CTLR]);
-    save_words(buf, points, &s[block + BPR0..block + (IGRPEN0 + 2)])
-}
-
-// The blocks of all vCPUs.
-fn save_vcpus(buf: &mut [u8], at: usize, s: &[u32], n: usize) -> usize
-    requires { ⌜ Stopped (now s) × (n ≤ vcpus (now s)) × (at + length (slotBytes (now s) (each vcpuSlots 0 n)) ≤ length (now buf)) ⌝ }
-    ensures { λ r. ⌜ Wrote (now (buf .entry)) at (slotBytes (now (s .entry)) (each vcpuSlots 0 n)) r (now (buf .exit)) ⌝ }
-{
-    let mut next = at;
-    let mut v: usize = 0;
-    while v < n {
-        next = save_vcpu(buf, next, s, VcpuIndex(v));
-        v += 1;
-    }
-    next
+    save_values(buf, at, s, part)
 }
 
 // Writes the record at the front of a buffer that has room for it, and answers its length.
@@ -149,14 +153,15 @@ fn save_record(buf: &mut [u8], s: &[u32]) -> usize
     requires { ⌜ Stopped (now s) × (length (recordOf (now s)) ≤ length (now buf)) ⌝ }
     ensures { λ r. ⌜ Wrote (now (buf .entry)) 0 (recordOf (now (s .entry))) r (now (buf .exit)) × (r ≤ 8210) ⌝ }
 {
-    let count = s[COUNT] as usize;
-    let n = s[VCPUS] as usize;
-    let control = save_header(buf, 0, s, n);
-    let status = write_number(buf, control, GICD_CTLR_FIXED + s[ENABLES]);
-    let banks = write_number(buf, status, s[STATUS]);
-    let routes = save_banks(buf, banks, s, count);
-    let blocks = save_words(buf, routes, &s[ROUTES..ROUTES + spi_count(count)]);
-    save_vcpus(buf, blocks, s, n)
+    let shape = shape_of(s);
+    let end = part_count(shape);
+    let mut next: usize = 0;
+    let mut k: usize = 0;
+    while k < end {
+        next = save_part(buf, next, s, shape, k);
+        k += 1;
+    }
+    next
 }
 
 // Fills the front of a buffer with the record: 14 not sound; 16 not initialised or running; 28 no room. The answer is the record's length.

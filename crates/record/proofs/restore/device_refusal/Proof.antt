@@ -1,5 +1,5 @@
 -- `record::restore::device_refusal` meets its contract.
-use Rattle.record.specs.Slots.{deviceChecks}
+use Rattle.record.specs.Walked.{deviceChecks}
 use Rattle.state.proofs.Admitted.{inside, refusing}
 use borrow.Author.Needs.{needs}
 use Rattle.record.proofs.restore.device_refusal.Statement.{statement}
