@@ -1,25 +1,23 @@
 -- What the functions of the table ask and answer: kinds of words, rows, zones, numbers of a device.
 use Prim.Native.Nat.{ℕ, zero, suc, _+_, _*_, _-_, _/_, _%_, _^_, _≤_, _<_}
 use mathlib.Core.Path.{_≡_, refl, sym, ap, _∙_}
-use mathlib.Core.Bool.{Bool, true, false, not, _&&_}
+use mathlib.Core.Bool.{Bool, false, _&&_}
 use mathlib.Core.List.{List, [], _∷_, _++_}
 use native.Mathlib.Omega.{arith}
-use borrow.Author.Tests.{eq-eqb, ne-eqb, lt-ltb, le-ltb, le-leb, lt-leb, not-true, not-false}
-use lib.Dec.{eqb, leb, lit<}
+use borrow.Author.Tests.{eq-eqb, ne-eqb, lt-ltb, le-ltb, le-leb, lt-leb}
+use lib.Dec.{leb, lit<}
 use lib.ListN.{length, getD, take, drop, replicate, length-replicate, getD-replicate, List·getD-eq-default}
 use denote.Enum.Declared.{tagOf}
 use types.Run.{OneOf, miss}
 use mir.Syntax.{w32, w64}
 use mir.Val.{Fits}
-use Rattle.model.specs.Words.{spread}
 use Rattle.model.specs.Values.{routeBits}
 use Rattle.model.specs.Layout.{stateLength, count, vcpus, spiBank, routeAt}
 use Rattle.model.specs.Sound.{fits}
 use Rattle.model.specs.Record.{spiWords, spis}
 use Rattle.model.specs.Demands.{Stopped}
 use Rattle.model.proofs.Soundness.{stopped-ready}
-use Rattle.words.specs.Words.{collect}
-use Rattle.record.specs.Table.{byBlock, blockOf, blockBitsOf, fieldBits, fieldLeast, leastOf, shown, hidden, fixed, plain, slot, takes, rowOf, blank, bankRows, bankParts, vcpuParts, interruptPart, parts, slots, Sized, ShapeOf, Inside}
+use Rattle.record.specs.Table.{fieldBits, fieldLeast, leastOf, shown, hidden, fixed, plain, slot, takes, rowOf, blank, bankRows, bankParts, vcpuParts, interruptPart, parts, slots, Sized, ShapeOf, Inside}
 use Rattle.record.specs.declared.table.Block.{Block}
 use Rattle.record.specs.declared.table.Block.the-variants.{Vcpu, Bank, LastBank}
 use Rattle.record.specs.declared.table.Kind.{Kind}
@@ -76,50 +74,10 @@ module _ (s : List ℕ) (p f : ℕ) (k : Kind) (x b m : ℕ) (e : k ≡ Above b 
   unfolding takes
   over-base r l h = rw (e, le-leb b x l) h
 
--- the bits m of word f go by the block of the kind
-module _ (s : List ℕ) (p f : ℕ) (k : Kind) (x : ℕ) (b : Block) (m : ℕ) (g : m ≡ blockBitsOf k f) where
-  pub in-fields : k ≡ Fields b → (r : Bool) → r ≡ fits x m → (l : ℕ) → l ≡ fieldLeast b f → (r && leb l x) ≡ takes s (slot p k f) x
-  unfolding takes blockBitsOf byBlock blockOf
-  in-fields e r h l q = rw (e, h, g, e, q)
-
-  pub in-edges : k ≡ Edges b → (w y : ℕ) → w ≡ collect x → y ≡ spread w → (r : Bool) → r ≡ fits w m → (eqb y x && r) ≡ takes s (slot p k f) x
-  unfolding takes blockBitsOf byBlock blockOf
-  in-edges e w y hw hy r h = rw (e, h, g, e, hy, hw)
-
-module _ (k : Kind) (f : ℕ) (r : Bool) (h : r ≡ byBlock k) where
-  pub no-block : not r ≡ true → 0 ≡ blockBitsOf k f
-  unfolding blockBitsOf
-  no-block n = rw (← h, not-true r n)
-
-  pub some-block : not r ≡ false → (b : Block) → b ≡ blockOf k → (m : ℕ) → m ≡ fieldBits b f → m ≡ blockBitsOf k f
-  unfolding blockBitsOf
-  some-block n b e m q = rw (← h, not-false r n, ← e) q
-
-pub goes-by-none : (k : Kind) → OneOf (0 ∷ 1 ∷ 2 ∷ 4 ∷ []) (tagOf the-type k) → false ≡ byBlock k
-unfolding byBlock
-goes-by-none (Exactly n) o = refl
-goes-by-none SetUp o = refl
-goes-by-none (Within m) o = refl
-goes-by-none (Fields b) o = absurd (miss (0 ∷ 1 ∷ 2 ∷ 4 ∷ []) 3 tt o)
-goes-by-none (Above a m) o = refl
-goes-by-none (Edges b) o = absurd (miss (0 ∷ 1 ∷ 2 ∷ 4 ∷ []) 5 tt o)
-
-pub block-fields : (k : Kind) (b : Block) → k ≡ Fields b → b ≡ blockOf k
-unfolding blockOf
-block-fields k b e = rw e
-
-pub block-edges : (k : Kind) (b : Block) → k ≡ Edges b → b ≡ blockOf k
-unfolding blockOf
-block-edges k b e = rw e
-
-pub block-none : (k : Kind) → OneOf (0 ∷ 1 ∷ 2 ∷ 4 ∷ []) (tagOf the-type k) → Vcpu ≡ blockOf k
-unfolding blockOf
-block-none (Exactly n) o = refl
-block-none SetUp o = refl
-block-none (Within m) o = refl
-block-none (Fields b) o = absurd (miss (0 ∷ 1 ∷ 2 ∷ 4 ∷ []) 3 tt o)
-block-none (Above a m) o = refl
-block-none (Edges b) o = absurd (miss (0 ∷ 1 ∷ 2 ∷ 4 ∷ []) 5 tt o)
+pub in-fields : (s : List ℕ) (p f : ℕ) (k : Kind) (x : ℕ) (b : Block) (m l : ℕ) (r : Bool) → k ≡ Fields b → m ≡ fieldBits b f → r ≡ fits x m → l ≡ fieldLeast b f
+    → (r && leb l x) ≡ takes s (slot p k f) x
+unfolding takes
+in-fields s p f k x b m l r e g h q = rw (e, h, g, q)
 
 pub hidden-under : (k : Kind) (x b m : ℕ) → k ≡ Above b m → x < b → 0 ≡ hidden k x
 unfolding hidden

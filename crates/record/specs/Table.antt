@@ -7,7 +7,7 @@ use mathlib.Core.Path.{_≡_}
 use lib.Dec.{eqb, ltb, leb}
 use lib.ListN.{getD, set, drop}
 use Rattle.model.specs.Words.{each, spread}
-use Rattle.model.specs.Values.{gicdCtlrFixed, gicdCtlrBits, iccCtlrFixed, iccCtlrBits, version, priorityBits, edgeBits, routeBits, statusrBits, pmrBits}
+use Rattle.model.specs.Values.{gicdCtlrFixed, gicdCtlrBits, iccCtlrFixed, iccCtlrBits, version, routeBits, statusrBits, pmrBits}
 use Rattle.model.specs.Layout.{mostVcpus, word, count, vcpus, initialisedAt, countAt, enablesAt, distributorStatusAt, block, affinityField, frameStatusField, pmrField, ctlrField, bprField, leastBpr, spiBank, groupField, edgeField, routeAt}
 use Rattle.model.specs.Sound.{fits, blockBits, bankBits, lastBankBits}
 use Rattle.model.specs.Record.{spiWords, spis, encode}
@@ -21,13 +21,6 @@ use Rattle.record.specs.declared.table.Shape.{Shape}
 
 -- ---- the words that may be there, by the word f of a block: as in a sound state
 
--- a bank with these bits of its flags, of its last four priorities and of its last sixteen edge flags
-abbrev pub bankFields : ℕ → ℕ → ℕ → List ℕ
-bankFields flags priorities edges =
-    flags ∷ flags ∷ flags ∷ flags ∷ flags
-    ∷ priorityBits ∷ priorityBits ∷ priorityBits ∷ priorityBits ∷ priorityBits ∷ priorityBits ∷ priorityBits ∷ priorities
-    ∷ edgeBits ∷ edges ∷ []
-
 unfoldable pub fieldBits : Block → ℕ → ℕ
 fieldBits Vcpu f = getD blockBits f 0
 fieldBits Bank f = getD bankBits f 0
@@ -38,26 +31,6 @@ unfoldable pub fieldLeast : Block → ℕ → ℕ
 fieldLeast Vcpu f = cond (eqb f (bprField 0)) (leastBpr 0) (cond (eqb f (bprField 1)) (leastBpr 1) 0)
 fieldLeast Bank f = 0
 fieldLeast LastBank f = 0
-
--- the bits of a word go by its block
-unfoldable pub byBlock : Kind → Bool
-byBlock (Exactly n) = false
-byBlock SetUp = false
-byBlock (Within m) = false
-byBlock (Fields b) = true
-byBlock (Above a m) = false
-byBlock (Edges b) = true
-
-unfoldable pub blockOf : Kind → Block
-blockOf (Exactly n) = Vcpu
-blockOf SetUp = Vcpu
-blockOf (Within m) = Vcpu
-blockOf (Fields b) = b
-blockOf (Above a m) = Vcpu
-blockOf (Edges b) = b
-
-unfoldable pub blockBitsOf : Kind → ℕ → ℕ
-blockBitsOf k f = cond (byBlock k) (fieldBits (blockOf k) f) 0
 
 -- ---- words as they are shown
 

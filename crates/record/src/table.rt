@@ -46,8 +46,8 @@ ghost use lib.ListN.{length, getD};
 ghost use Rattle.model.specs.Layout.{stateLength, mostVcpus, word};
 ghost use Rattle.model.specs.Record.{spiWords, spis};
 ghost use Rattle.model.specs.Demands.{Stopped};
-ghost use Rattle.model.specs.Sound.{blockBits};
-ghost use Rattle.record.specs.Table.{bankFields, byBlock, blockOf, blockBitsOf, fieldBits, fieldLeast, leastOf, shown, hidden, fixed, plain, slot, takes, rowOf, blank, headerPart, distributorParts, bankRows, bankParts, vcpuParts, interruptPart, parts, slots, Sized, ShapeOf, Inside};
+ghost use Rattle.model.specs.Sound.{blockBits, bankBits, lastBankBits};
+ghost use Rattle.record.specs.Table.{fieldBits, fieldLeast, leastOf, shown, hidden, fixed, plain, slot, takes, rowOf, blank, headerPart, distributorParts, bankRows, bankParts, vcpuParts, interruptPart, parts, slots, Sized, ShapeOf, Inside};
 
 // A block of words whose fields differ: a vCPU's block, a bank of SPIs, the bank of the SPI word 31, of which the interrupts from 1020 on do not exist.
 pub enum Block {
@@ -114,16 +114,28 @@ fn vcpu_bits(f: usize) -> u32
     }
 }
 
-// The bits of word `f` of a bank of SPIs, with those of its flags, of its last four priorities and of its last sixteen edge flags.
-fn bank_bits(f: usize, flags: u32, priorities: u32, edges: u32) -> u32
-    ensures { λ r. ⌜ r ≡ getD (bankFields flags priorities edges) f 0 ⌝ }
+// The bits of word `f` of a bank of SPIs.
+fn bank_bits(f: usize) -> u32
+    ensures { λ r. ⌜ r ≡ getD bankBits f 0 ⌝ }
 {
     match f {
-        0 | 1 | 2 | 3 | 4 => flags,
+        0 | 1 | 2 | 3 | 4 => FLAG_BITS,
+        5 | 6 | 7 | 8 | 9 | 10 | 11 | 12 => PRIORITY_BITS,
+        13 | 14 => EDGE_BITS,
+        _ => 0,
+    }
+}
+
+// The bits of word `f` of the bank of the SPI word 31.
+fn last_bank_bits(f: usize) -> u32
+    ensures { λ r. ⌜ r ≡ getD lastBankBits f 0 ⌝ }
+{
+    match f {
+        0 | 1 | 2 | 3 | 4 => LAST_FLAG_BITS,
         5 | 6 | 7 | 8 | 9 | 10 | 11 => PRIORITY_BITS,
-        12 => priorities,
+        12 => 0,
         13 => EDGE_BITS,
-        14 => edges,
+        14 => LAST_EDGE_BITS,
         _ => 0,
     }
 }
@@ -134,8 +146,8 @@ fn bits_of(block: Block, f: usize) -> u32
 {
     match block {
         Block::Vcpu => vcpu_bits(f),
-        Block::Bank => bank_bits(f, FLAG_BITS, PRIORITY_BITS, EDGE_BITS),
-        Block::LastBank => bank_bits(f, LAST_FLAG_BITS, 0, LAST_EDGE_BITS),
+        Block::Bank => bank_bits(f),
+        Block::LastBank => last_bank_bits(f),
     }
 }
 
@@ -152,38 +164,6 @@ fn least_of(block: Block, f: usize) -> u32
         Block::Bank => 0,
         Block::LastBank => 0,
     }
-}
-
-// Whether the bits of a word go by its block.
-fn by_block(kind: Kind) -> bool
-    ensures { λ r. ⌜ r ≡ byBlock kind ⌝ }
-{
-    match kind {
-        Kind::Fields(_) => true,
-        Kind::Edges(_) => true,
-        _ => false,
-    }
-}
-
-// The block of such a kind.
-fn block_of(kind: Kind) -> Block
-    ensures { λ r. ⌜ r ≡ blockOf kind ⌝ }
-{
-    match kind {
-        Kind::Fields(block) => block,
-        Kind::Edges(block) => block,
-        _ => Block::Vcpu,
-    }
-}
-
-// The bits of word `f` by its block. There is one call of `bits_of`, so that it is compiled into the walk.
-fn block_bits(kind: Kind, f: usize) -> u32
-    ensures { λ r. ⌜ r ≡ blockBitsOf kind f ⌝ }
-{
-    if !by_block(kind) {
-        return 0;
-    }
-    bits_of(block_of(kind), f)
 }
 
 // ---- words as they are shown
@@ -216,21 +196,20 @@ pub fn is_taken(s: &[u32], kind: Kind, at: usize, f: usize, x: u32) -> bool
     requires { ⌜ (length (now s) ≡ stateLength) × (at + 4 ≤ stateLength) ⌝ }
     ensures { λ r. ⌜ r ≡ takes (now (s .entry)) (slot at kind f) x ⌝ }
 {
-    let bits = block_bits(kind, f);
     match kind {
         Kind::Exactly(n) => x == n,
         Kind::SetUp => x == word_at(s, at),
         Kind::Within(mask) => is_within(x, mask),
-        Kind::Fields(block) => is_within(x, bits) & (least_of(block, f) <= x),
+        Kind::Fields(block) => is_within(x, bits_of(block, f)) & (least_of(block, f) <= x),
         Kind::Above(base, mask) => {
             if x < base {
                 return false;
             }
             is_within(x - base, mask)
         }
-        Kind::Edges(_) => {
+        Kind::Edges(block) => {
             let w = edges_of(x);
-            (config_of(w) == x) & is_within(w, bits)
+            (config_of(w) == x) & is_within(w, bits_of(block, f))
         }
     }
 }

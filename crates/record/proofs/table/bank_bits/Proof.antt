@@ -1,16 +1,24 @@
 -- `record::table::bank_bits` meets its contract.
-use borrow.Author.Needs.{needs}
 use mathlib.Core.Path.{refl}
 use native.Mathlib.Omega.{arith}
-use Rattle.record.specs.Table.{bankFields}
+use Rattle.model.specs.Sound.{bankBits}
 use Rattle.record.proofs.Choices.{in-run, past-end}
+use borrow.Author.Needs.{needs}
 use Rattle.record.proofs.table.bank_bits.Statement.{statement}
 use Rattle.record.proofs.table.bank_bits.Tie as tie
 
+returns : tie.Need-returns
+returns c = in-run bankBits 0 5 _ (c .before .args .f) refl refl (omega arith) (omega arith)
+
+returns-2 : tie.Need-returns-2
+returns-2 c = in-run bankBits 5 8 _ (c .before .before .args .f) refl refl (omega arith) (omega arith)
+
+returns-3 : tie.Need-returns-3
+returns-3 c = in-run bankBits 13 2 _ (c .before .before .before .args .f) refl refl (omega arith) (omega arith)
+
+returns-4 : tie.Need-returns-4
+returns-4 c = past-end bankBits (c .before .before .before .args .f) (omega arith)
+
 pub bank-bits-spec : {M : Type 1} → statement M
-bank-bits-spec =
-    tie.close
-    (tie.spec (λ c. search needs) (λ c. search needs) (λ c. search needs)
-    (λ c. let a = c .before .before .args in in-run (bankFields (a .flags) (a .priorities) (a .edges)) 0 5 _ (a .f) refl refl (omega arith) (omega arith))
-    (λ c. let a = c .before .before .before .args in in-run (bankFields (a .flags) (a .priorities) (a .edges)) 5 7 _ (a .f) refl refl (omega arith) (omega arith))
-    (λ c. let a = c .before .before .before .args in past-end (bankFields (a .flags) (a .priorities) (a .edges)) (a .f) (omega arith)))
+bank-bits-spec = tie.close
+    (tie.spec returns returns-2 returns-3 returns-4)
