@@ -142,8 +142,8 @@ module _ (all : List ℕ) (sum : ℕ) where
   counting-end left e w = omega (arith, w .whole, ap length e)
 
   module _ (ws : List ℕ) (i : ℕ) (w : Counting all sum (wordsBytes (drop i ws))) where
-    pub words-counting : i < length ws → (n : ℕ) → n ≡ length (encode (getD ws i 0)) → Counting all (sum + n) (wordsBytes (drop (i + 1) ws))
-    words-counting l n q = counting-next (wordsBytes (drop i ws)) (encode (getD ws i 0)) (wordsBytes (drop (i + 1) ws)) (words-next ws i l) w n q
+    pub words-counting : i < length ws → (x : ℕ) → x ≡ getD ws i 0 → (n : ℕ) → n ≡ length (encode x) → Counting all (sum + n) (wordsBytes (drop (i + 1) ws))
+    words-counting l x h n q = counting-next (wordsBytes (drop i ws)) (encode (getD ws i 0)) (wordsBytes (drop (i + 1) ws)) (words-next ws i l) w n (rw h at q)
 
     pub words-counted : length ws ≤ i → sum ≡ length all
     words-counted l = counting-end _ (words-end ws i l) w
@@ -166,8 +166,8 @@ unfolding wordsBytes
 words-short [] = omega arith
 words-short (x ∷ ws) = omega (arith, length-append (encode x) (wordsBytes ws), encode-short x, words-short ws)
 
-pub words-fit : (ws : List ℕ) → length ws ≤ stateLength → (sum i : ℕ) → Counting (wordsBytes ws) sum (wordsBytes (drop i ws)) → i < length ws → (n : ℕ) → n ≡ length (encode (getD ws i 0)) → Fits w64 (sum + n)
-words-fit ws m sum i w l n q = record { fits = omega (arith, words-counting (wordsBytes ws) sum ws i w l n q .whole, words-short ws) }
+pub words-fit : (ws : List ℕ) → length ws ≤ stateLength → (sum i : ℕ) → Counting (wordsBytes ws) sum (wordsBytes (drop i ws)) → i < length ws → (x : ℕ) → x ≡ getD ws i 0 → (n : ℕ) → n ≡ length (encode x) → Fits w64 (sum + n)
+words-fit ws m sum i w l x h n q = record { fits = omega (arith, words-counting (wordsBytes ws) sum ws i w l x h n q .whole, words-short ws) }
 
 pub values-fit : (s : List ℕ) (p : Part) → Inside p → (sum j : ℕ) → Counting (slotBytes s (slotsIn p)) sum (slotBytes s (drop j (slotsIn p))) → j < p .len → (x : ℕ) → x ≡ shown (p .kind) (word s (p .base + p .first + j)) → (n : ℕ) → n ≡ length (encode x) → Fits w64 (sum + n)
 values-fit s p i sum j w l x h n q = record { fits = omega (arith, values-counting (slotBytes s (slotsIn p)) sum s p j w l x h n q .whole, bytes-short s (slotsIn p), length-run (at-word s p j 0) (at-word s p j) 0 (p .len), i .within) }
@@ -244,11 +244,12 @@ module _ (b : List ℕ) (at₀ : ℕ) (all buf : List ℕ) (at : ℕ) where
   writing-end left e w = record { place = omega (arith, w .place, ap length e); bytes = rw e at (w .bytes) }
 
   module _ (ws : List ℕ) (i : ℕ) (w : Writing b at₀ all buf at (wordsBytes (drop i ws))) where
-    pub word-room : i < length ws → at + length (encode (getD ws i 0)) ≤ length buf
-    word-room l = writing-room (wordsBytes (drop i ws)) (encode (getD ws i 0)) (wordsBytes (drop (i + 1) ws)) (words-next ws i l) w
+    module _ (l : i < length ws) (x : ℕ) (h : x ≡ getD ws i 0) where
+      pub word-room : at + length (encode x) ≤ length buf
+      word-room = writing-room (wordsBytes (drop i ws)) (encode x) (wordsBytes (drop (i + 1) ws)) (rw h (words-next ws i l)) w
 
-    pub word-written : i < length ws → (at′ : ℕ) → at′ ≡ at + length (encode (getD ws i 0)) → (buf′ : List ℕ) → buf′ ≡ sets buf at (encode (getD ws i 0)) → Writing b at₀ all buf′ at′ (wordsBytes (drop (i + 1) ws))
-    word-written l = writing-next (wordsBytes (drop i ws)) (encode (getD ws i 0)) (wordsBytes (drop (i + 1) ws)) (words-next ws i l) w
+      pub word-written : (at′ : ℕ) → at′ ≡ at + length (encode x) → (buf′ : List ℕ) → buf′ ≡ sets buf at (encode x) → Writing b at₀ all buf′ at′ (wordsBytes (drop (i + 1) ws))
+      word-written = writing-next (wordsBytes (drop i ws)) (encode x) (wordsBytes (drop (i + 1) ws)) (rw h (words-next ws i l)) w
 
     pub words-written : length ws ≤ i → Wrote b at₀ all at buf
     words-written l = writing-end _ (words-end ws i l) w

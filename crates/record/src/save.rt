@@ -9,6 +9,7 @@ use crate::table::part_count;
 use crate::table::shape_of;
 use crate::table::value_at;
 use crate::table::value_count;
+use crate::table::word_at;
 use model::Answer;
 use model::Errno;
 use model::Phase;
@@ -37,7 +38,7 @@ fn words_length(words: &[u32]) -> usize
     let mut sum: usize = 0;
     let mut i: usize = 0;
     while i < words.len() {
-        sum += number_length(words[i]);
+        sum += number_length(word_at(words, i));
         i += 1;
     }
     sum
@@ -111,7 +112,7 @@ fn save_words(buf: &mut [u8], at: usize, words: &[u32]) -> usize
     let mut next = at;
     let mut i: usize = 0;
     while i < words.len() {
-        next = write_number(buf, next, words[i]);
+        next = write_number(buf, next, word_at(words, i));
         i += 1;
     }
     next

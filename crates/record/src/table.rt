@@ -168,12 +168,12 @@ fn least_of(block: Block, f: usize) -> u32
 
 // ---- words as they are shown
 
-// The word at a place, as it is: of latches the latch itself, not pending, in which the line of a level interrupt counts too.
-fn word_at(s: &[u32], at: usize) -> u32
-    requires { ⌜ (length (now s) ≡ stateLength) × (at + 4 ≤ stateLength) ⌝ }
-    ensures { λ r. ⌜ r ≡ word (now (s .entry)) at ⌝ }
+// A word as it is: of latches the latch itself, not pending, in which the line of a level interrupt counts too.
+pub fn word_at(words: &[u32], i: usize) -> u32
+    requires { ⌜ i < length (now words) ⌝ }
+    ensures { λ r. ⌜ r ≡ word (now (words .entry)) i ⌝ }
 {
-    s[at]
+    words[i]
 }
 
 // What the word at a place is shown as.

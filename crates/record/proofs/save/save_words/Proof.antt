@@ -28,5 +28,5 @@ returns c = search words-written
 pub save-words-spec : {M : Type 1} → statement M
 save-words-spec =
     tie.close
-    (tie.spec Inv-loop μ-loop loop-holds (λ c. search needs) (λ c. search needs) write-number-requires (λ c. search needs) (λ c. search needs)
-    loop-again (λ c. search needs) returns)
+    (tie.spec Inv-loop μ-loop loop-holds (λ c κs. search needs) write-number-requires (λ c. search needs) (λ c. search needs) loop-again
+    (λ c. search needs) returns)

@@ -28,5 +28,5 @@ returns c = search words-counted
 pub words-length-spec : {M : Type 1} → statement M
 words-length-spec =
     tie.close
-    (tie.spec Inv-loop μ-loop loop-holds (λ c. search needs) (λ c. search needs) (λ c κs. search needs) add-sum (λ c. search needs) (λ c. search needs)
-    loop-again returns)
+    (tie.spec Inv-loop μ-loop loop-holds (λ c κs. search needs) (λ c κs. search needs) add-sum (λ c. search needs) (λ c. search needs) loop-again
+    returns)
