@@ -25,7 +25,7 @@ module _ (b b′ : List ℕ) (at at′ : ℕ) (xs ys : List ℕ) (p : at′ ≡ 
   pub room-next : at + length (xs ++ ys) ≤ length b → at′ + length ys ≤ length b′
   room-next h = rw (p, e, length-sets b at xs) (omega (arith, simp length-append at h))
 
--- a list written from the front on stands there, and the rest keeps its bytes
+-- a list written from the front on is there, and the rest keeps its bytes
 pub sets-front : (b r : List ℕ) → length r ≤ length b → sets b 0 r ≡ r ++ drop (length r) b
 sets-front b r h = rw (sets-eq r b 0 (omega arith), zero-add)
 

@@ -1,4 +1,4 @@
--- What is read at a place of some bytes, by the byte that stands there; how many groups a number has, and how they are written.
+-- What is read at a place of some bytes, by the byte there; how many groups a number has, and how they are written.
 use Prim.Native.Nat.{ℕ, zero, suc, _+_, _-_, _*_, _/_, _%_, _^_, _≤_, _<_}
 use mathlib.Core.Path.{_≡_, refl, sym, ap, _∙_}
 use mathlib.Core.Bool.{Bool, true, false, cond, not, _&&_, and-false}
@@ -194,19 +194,19 @@ module _ (s : List ℕ) (i : ℕ) where
   cut-at g h = rw (drop-of-length-le s h)
 
   module _ (b : ℕ) (e : b ≡ getD s i 0) (h : i < length s) where
-    stands : drop i s ≡ b ∷ drop (i + 1) s
-    stands = rw (drop-next s i 0 h, ← e)
+    byte-here : drop i s ≡ b ∷ drop (i + 1) s
+    byte-here = rw (drop-next s i 0 h, ← e)
 
     pub number-small : b < 128 → told s (Value b (record { at = i + 1 })) ≡ readOn 0 1 (drop i s)
     unfolding told
-    number-small l = rw stands (sym (on-last 0 1 b (drop (i + 1) s) l ∙ alone b (drop (i + 1) s) l))
+    number-small l = rw byte-here (sym (on-last 0 1 b (drop (i + 1) s) l ∙ alone b (drop (i + 1) s) l))
 
     module _ (l : 128 ≤ b) where
       pub number-begins : b < 256 → Begins (record { sum = b - 128; unit = 128 })
       number-begins k = record { past = 1; few = omega arith; unit = refl; small = omega arith }
 
       pub number-more : (r : Number) → told s r ≡ readOn (b - 128) 128 (drop (i + 1) s) → told s r ≡ readOn 0 1 (drop i s)
-      number-more r m = m ∙ sym (rw (stands, on-more 0 1 b (drop (i + 1) s) l (λ q. omega arith), zero-add, one-mul (b - 128)) refl)
+      number-more r m = m ∙ sym (rw (byte-here, on-more 0 1 b (drop (i + 1) s) l (λ q. omega arith), zero-add, one-mul (b - 128)) refl)
 
 -- nothing is read yet, and the answer of the last group
 pub none-begun : Resumes (Cut (record { sum = 0; unit = 1 }))
@@ -233,12 +233,12 @@ module _ (s : List ℕ) (g : Begun) (at : ℕ) where
 
     module _ (b : ℕ) (e : b ≡ getD s i 0) (k : i < length s) where
       pub rest-ends : b < 128 → (r : Number) → Ends h b (i + 1) r → told s r ≡ readOn (g .sum) (g .unit) (drop at s)
-      rest-ends l r m = m .number s ∙ rw (stands s i b e k, on-last (h .sum) (h .unit) b (drop (i + 1) s) l) at (w .number)
+      rest-ends l r m = m .number s ∙ rw (byte-here s i b e k, on-last (h .sum) (h .unit) b (drop (i + 1) s) l) at (w .number)
 
       module _ (l : 128 ≤ b) where
         pub rest-over : h .unit ≡ lastUnit → told s Broken ≡ readOn (g .sum) (g .unit) (drop at s)
         unfolding told
-        rest-over q = rw (stands s i b e k, on-over (h .sum) (h .unit) b (drop (i + 1) s) l q) at (w .number)
+        rest-over q = rw (byte-here s i b e k, on-over (h .sum) (h .unit) b (drop (i + 1) s) l q) at (w .number)
 
         module _ (byte : b < 256) (n : ¬ (h .unit ≡ lastUnit)) where
           product : h .unit * (b - 128) ≤ h .unit * 127
@@ -265,7 +265,7 @@ module _ (s : List ℕ) (g : Begun) (at : ℕ) where
               unit = rw pow-suc (ap (λ (u : ℕ). u * 128) (w .begins .unit));
               small = omega (arith, product, w .begins .small);
             };
-            number = rw (stands s i b e k, on-more (h .sum) (h .unit) b (drop (i + 1) s) l n) at (w .number);
+            number = rw (byte-here s i b e k, on-more (h .sum) (h .unit) b (drop (i + 1) s) l n) at (w .number);
           }
 
 -- ---- how many groups a number has

@@ -1,4 +1,4 @@
--- Lists made block by block, element by element; and two lists whose elements stand in a relation.
+-- Lists made block by block, element by element; and two lists whose elements are related one by one.
 use Prim.Native.Nat.{ℕ, zero, suc, _+_, _*_, _-_, _/_, _%_, _≤_, _<_}
 use mathlib.Core.Path.{_≡_, refl, sym, ap, ap₂, _∙_}
 use mathlib.Core.Bool.{Bool, true, false}
@@ -54,7 +54,7 @@ module _ {A : Type 0} (d : A) where
   pub run-at : (f : ℕ → A) (b k i : ℕ) → i < k → getD (each (λ j. f j ∷ []) b k) i d ≡ f (b + i)
   run-at f b k i h = each-at (λ j. f j ∷ []) 1 (λ j. refl) (omega arith) b k i (omega arith) ∙ rw (mod-one, div-one)
 
--- ---- lists whose elements stand in a relation, one by one
+-- ---- lists whose elements are related, one by one
 
 module _ {A B : Type 0} (R : A → B → Type 0) where
   pub data Match : List A → List B → Type 0 where

@@ -46,7 +46,7 @@ asks-stopped s a c ha la hc lc = record { is-sound = told-yes (sound s) a ha la;
 pub fill-room : (s : List ℕ) (m : ℕ) (r : Bool) → r ≡ leb (length (recordOf s)) m → not r ≡ false → length (recordOf s) ≤ m
 fill-room s m r hr lr = leb-true _ _ (told-yes (leb (length (recordOf s)) m) r hr lr)
 
--- the record stands within the buffer, which keeps its length
+-- the record is within the buffer, which keeps its length
 pub fill-within : (s b : List ℕ) (r : Bool) → r ≡ leb (length (recordOf s)) (length b) → not r ≡ false → (n : ℕ) (t : List ℕ) → Wrote b 0 (recordOf s) n t → n ≤ length t
 fill-within s b r hr lr n t w = rw (w .bytes, length-sets b 0 (recordOf s)) (omega (arith, w .place, fill-room s (length b) r hr lr))
 

@@ -1,4 +1,4 @@
--- A word and the number that it is shown as: one tells the other, and the words that may stand at a place tell the numbers that are taken there.
+-- A word and the number that it is shown as: one tells the other, and the words that may be at a place tell the numbers that are taken there.
 use Prim.Native.Nat.{ℕ, _+_, _*_, _-_, _/_, _%_, _^_, _≤_, _<_}
 use mathlib.Core.Path.{_≡_, refl, sym, _∙_}
 use mathlib.Core.Bool.{true, _&&_}
@@ -67,7 +67,7 @@ module _ (s : List ℕ) (p : ℕ) where
       let q = both (eqb (spread (collect x)) x) (fits (collect x) (fieldBits b f)) e in
       record { back = eqb-true _ x (q .0); fit = q .1; least = omega arith }
 
-  -- and of a word that may stand there, what it is shown as is taken
+  -- and of a word that may be there, what it is shown as is taken
   pub is-shown : (k : Kind) (f : ℕ) → Tidy k f → (w : ℕ) → fits w (maskOf k f) ≡ true → leastOf k f ≤ w → takes s (slot p k f) (shown k w) ≡ true
   unfolding shown takes leastOf
   is-shown (Exactly n) f t w m l = absurd t

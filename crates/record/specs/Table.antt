@@ -1,4 +1,4 @@
--- The record as a table of parts, in the order of the record, and the values of a record that the parts stand for.
+-- The record as a table of parts, in the order of the record, and the values that each part has.
 -- Proofs tie these to the entries of model's Record (proofs/Standing, proofs/Loading).
 use Prim.Native.Nat.{ℕ, _+_, _*_, _-_, _/_, _%_, _≤_}
 use mathlib.Core.Bool.{Bool, true, false, cond, _&&_}

@@ -178,7 +178,7 @@ pub fn word_at(words: &[u32], i: usize) -> u32
 
 // What the word at a place is shown as.
 pub fn value_at(s: &[u32], kind: Kind, at: usize) -> u32
-    requires { ⌜ (length (now s) ≡ stateLength) × (at + 4 ≤ stateLength) × (shown kind (word (now s) at) < 2 ^ 32) ⌝ }
+    requires { ⌜ (length (now s) ≡ stateLength) × (at < stateLength) × (shown kind (word (now s) at) < 2 ^ 32) ⌝ }
     ensures { λ r. ⌜ r ≡ shown kind (word (now (s .entry)) at) ⌝ }
 {
     match kind {
@@ -193,7 +193,7 @@ pub fn value_at(s: &[u32], kind: Kind, at: usize) -> u32
 
 // Whether some device of the target's set-up shows `x` at a place, which is word `f` of its block.
 pub fn is_taken(s: &[u32], kind: Kind, at: usize, f: usize, x: u32) -> bool
-    requires { ⌜ (length (now s) ≡ stateLength) × (at + 4 ≤ stateLength) ⌝ }
+    requires { ⌜ (length (now s) ≡ stateLength) × (at < stateLength) ⌝ }
     ensures { λ r. ⌜ r ≡ takes (now (s .entry)) (slot at kind f) x ⌝ }
 {
     match kind {
