@@ -1,4 +1,5 @@
 // The attribute calls, of any group: get and set.
+#![tactic(auto)]
 mod item;
 mod lookup;
 
@@ -17,14 +18,14 @@ use model::{Answer, AttributeGroup, Errno, Item, RegisterGroup, View};
 use state::is_sound;
 
 // Where the register of an attribute stands: in the distributor, or at a vCPU, by the view of its frame.
-#[derive(Drop)]
+#[derive(Clone, Copy)]
 pub enum Place {
     In(View),
     NoVcpu,
 }
 
 // What an attribute names, or why it is refused.
-#[derive(Drop)]
+#[derive(Clone, Copy)]
 pub enum Named {
     Is(Item),
     Not(Errno),

@@ -4,7 +4,7 @@ use crate::room::{BUFFER, MOST_WORDS};
 use console::parse::is_same;
 
 // A call on the device.
-#[derive(Drop)]
+#[derive(Clone, Copy)]
 pub enum Call {
     Make,
     AddVcpu(u32),
@@ -22,7 +22,7 @@ pub enum Call {
 }
 
 // What only a test wants.
-#[derive(Drop)]
+#[derive(Clone, Copy)]
 pub enum Test {
     Length(usize),
     Words(u32),
@@ -42,7 +42,7 @@ pub enum Test {
 }
 
 // What a line is: a call that answers 0, one that answers a number, a word of a test, or none.
-#[derive(Drop)]
+#[derive(Clone, Copy)]
 pub enum Parsed {
     Does(Call),
     Reads(Call),

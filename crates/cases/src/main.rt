@@ -1,4 +1,5 @@
 // Runs sessions of calls, each line with the answer that it must give, and prints every difference. docs/TESTING.md has the language.
+#![tactic(auto)]
 mod command;
 mod parse;
 mod print;
@@ -15,7 +16,7 @@ use room::{BEFORE, Bytes, DEVICE, Words, begin, copy_state};
 use run::run_line;
 
 // Where the call of a line ends, and where its answer and its changed words begin and end.
-#[derive(Drop)]
+#[derive(Clone, Copy)]
 pub struct Parts {
     pub call: usize,
     pub answer: usize,
@@ -25,7 +26,7 @@ pub struct Parts {
 }
 
 // The lines of a session so far: those that make a call, and those that differ.
-#[derive(Drop)]
+#[derive(Clone, Copy)]
 pub struct Tally {
     pub lines: u64,
     pub differ: u64,

@@ -5,7 +5,7 @@ use console::Number;
 use console::parse::{digit_of, field_end, read_number};
 
 // Up to five numbers; `good` if the line has nothing else.
-#[derive(Drop)]
+#[derive(Clone, Copy)]
 pub struct Numbers {
     pub good: bool,
     pub n: usize,
@@ -13,7 +13,7 @@ pub struct Numbers {
 }
 
 // How many bytes were read from hex digits, or that they were none.
-#[derive(Drop)]
+#[derive(Clone, Copy)]
 pub enum Pairs {
     Read(usize),
     Bad,

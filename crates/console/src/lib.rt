@@ -1,4 +1,5 @@
 // The language of `drill`: a line of bytes is parsed, makes one call on the lent state, and its answer is printed into a lent buffer.
+#![tactic(auto)]
 pub mod parse;
 pub mod print;
 
@@ -13,14 +14,14 @@ use print::{append, put_answer};
 use state::{Mpidr, VcpuIndex};
 
 // A number of a line: 1 to 16 hex digits, or none.
-#[derive(Drop)]
+#[derive(Clone, Copy)]
 pub enum Number {
     Hex(u64),
     None,
 }
 
 // The numbers of a line: up to four, or not so.
-#[derive(Drop)]
+#[derive(Clone, Copy)]
 pub enum Numbers {
     Zero,
     One(u64),
@@ -31,7 +32,7 @@ pub enum Numbers {
 }
 
 // A word with its numbers.
-#[derive(Drop)]
+#[derive(Clone, Copy)]
 pub enum Command {
     Irqs(u64),
     Vcpu(u32),
@@ -48,14 +49,14 @@ pub enum Command {
 }
 
 // What a line is.
-#[derive(Drop)]
+#[derive(Clone, Copy)]
 pub enum Parsed {
     Good(Command),
     Bad,
 }
 
 // How many bytes of the line begun are kept, and how many bytes are printed.
-#[derive(Drop)]
+#[derive(Clone, Copy)]
 pub struct Progress {
     pub kept: usize,
     pub printed: usize,

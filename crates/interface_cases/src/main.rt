@@ -1,4 +1,5 @@
 // Runs the system registers, acknowledge and end of interrupt, SGIs and the signal query, and prints their answers and the words that they change. The file stdout holds what document 01 gives for each.
+#![tactic(auto)]
 use report::{say, say_answer, say_changed, say_hex};
 use state::{Mpidr, VcpuIndex};
 
@@ -190,7 +191,7 @@ const TWO: [[u64; 4]; 4] = [
 ];
 
 // What comes before the steps of a case, and prints nothing.
-#[derive(Drop)]
+#[derive(Clone, Copy)]
 enum Before {
     Nothing,
     AtA0,

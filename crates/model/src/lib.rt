@@ -1,9 +1,11 @@
 // The types that the definitions of specs/ and the code share, the places of the state, and the numbers. There is nothing to run.
+#![tactic(auto)]
+
 pub mod layout;
 pub mod values;
 
 // The table of refusals.
-#[derive(Drop)]
+#[derive(Clone, Copy)]
 pub enum Errno {
     Eperm,
     Eio,
@@ -19,28 +21,28 @@ pub enum Errno {
 }
 
 // Whether a call is refused, and with what.
-#[derive(Drop)]
+#[derive(Clone, Copy)]
 pub enum Refusal {
     None,
     Refuse(Errno),
 }
 
 // What a call answers.
-#[derive(Drop)]
+#[derive(Clone, Copy)]
 pub enum Answer {
     Value(u32),
     Refused(Errno),
 }
 
 // Where a memory-mapped register stands: in the distributor, or in the frame of a vCPU.
-#[derive(Drop)]
+#[derive(Clone, Copy)]
 pub enum View {
     Distributor,
     Frame(usize),
 }
 
 // The registers with one bit for each of 32 interrupts, with their names in the manual: the distributor's, then the frame's.
-#[derive(Drop)]
+#[derive(Clone, Copy)]
 pub enum Flags {
     Group, // GICD_IGROUPR, GICR_IGROUPR0
     SetEnable, // GICD_ISENABLER, GICR_ISENABLER0
@@ -53,14 +55,14 @@ pub enum Flags {
 }
 
 // Who reads or writes.
-#[derive(Drop)]
+#[derive(Clone, Copy)]
 pub enum By {
     Guest,
     Attribute,
 }
 
 // What such a register shows of an interrupt.
-#[derive(Drop)]
+#[derive(Clone, Copy)]
 pub enum Shown {
     Nothing,
     Flag,
@@ -68,7 +70,7 @@ pub enum Shown {
 }
 
 // What a bit written to such a register does to the interrupt's flag.
-#[derive(Drop)]
+#[derive(Clone, Copy)]
 pub enum Rule {
     Ignores,
     Replaces,
@@ -77,7 +79,7 @@ pub enum Rule {
 }
 
 // The memory-mapped registers. Fixed are the words of a frame that read as a constant.
-#[derive(Drop)]
+#[derive(Clone, Copy)]
 pub enum Register {
     Fixed(u32), // GICR_CTLR, GICR_WAKER, GICR_ICFGR0, GICR_ICFGR1
     Control, // GICD_CTLR
@@ -93,14 +95,14 @@ pub enum Register {
 }
 
 // What an offset decodes to: a register and the number of its word, or nothing.
-#[derive(Drop)]
+#[derive(Clone, Copy)]
 pub enum Decoded {
     Listed(Register, usize),
     Unlisted,
 }
 
 // The system registers for guest and attribute, both ways. A number is the interrupt group.
-#[derive(Drop)]
+#[derive(Clone, Copy)]
 pub enum Plain {
     Pmr, // ICC_PMR_EL1
     Bpr(usize), // ICC_BPR0_EL1, ICC_BPR1_EL1
@@ -111,7 +113,7 @@ pub enum Plain {
 }
 
 // The system registers that a guest only reads.
-#[derive(Drop)]
+#[derive(Clone, Copy)]
 pub enum Readable {
     Iar(usize), // ICC_IAR0_EL1, ICC_IAR1_EL1
     Hppir(usize), // ICC_HPPIR0_EL1, ICC_HPPIR1_EL1
@@ -119,7 +121,7 @@ pub enum Readable {
 }
 
 // The system registers that a guest only writes.
-#[derive(Drop)]
+#[derive(Clone, Copy)]
 pub enum Writable {
     Eoir(usize), // ICC_EOIR0_EL1, ICC_EOIR1_EL1
     Dir, // ICC_DIR_EL1
@@ -128,7 +130,7 @@ pub enum Writable {
 }
 
 // What an encoding names.
-#[derive(Drop)]
+#[derive(Clone, Copy)]
 pub enum SystemRegister {
     Both(Plain),
     Read(Readable),
@@ -137,7 +139,7 @@ pub enum SystemRegister {
 }
 
 // The attribute groups that name registers: 1, 5, 6 and 7.
-#[derive(Drop)]
+#[derive(Clone, Copy)]
 pub enum RegisterGroup {
     Distributor,
     Redistributor,
@@ -146,7 +148,7 @@ pub enum RegisterGroup {
 }
 
 // The attribute groups: 1, 5, 6 and 7; 3; 4; all others.
-#[derive(Drop)]
+#[derive(Clone, Copy)]
 pub enum AttributeGroup {
     Registers(RegisterGroup),
     Count,
@@ -155,7 +157,7 @@ pub enum AttributeGroup {
 }
 
 // What an attribute of the groups 1, 5, 6 and 7 names: a word of a memory-mapped register, a system register of the vCPU whose frame the view is, or nothing.
-#[derive(Drop)]
+#[derive(Clone, Copy)]
 pub enum Item {
     Mapped(View, Register, usize),
     System(View, Plain),
@@ -163,7 +165,7 @@ pub enum Item {
 }
 
 // The phase that a call asks for: EBUSY in another.
-#[derive(Drop)]
+#[derive(Clone, Copy)]
 pub enum Phase {
     // Initialised.
     Initialised,

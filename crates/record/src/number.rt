@@ -5,13 +5,13 @@ ghost use Rattle.model.specs.Record.{encode};
 ghost use Rattle.record.specs.Numbers.{Begins, Resumes, Ends, read_on, told};
 
 // A place in some bytes.
-#[derive(Drop)]
+#[derive(Clone, Copy)]
 pub struct Cursor {
     pub at: usize,
 }
 
 // The groups of a number that are read so far: the sum they make, and what a 1 of the next group counts.
-#[derive(Drop)]
+#[derive(Clone, Copy)]
 pub struct Begun {
     pub sum: u32,
     pub unit: u32,
@@ -21,7 +21,7 @@ pub struct Begun {
 const LAST_UNIT: u32 = 0x1000_0000;
 
 // What reading a number finds: its value and the place after it; that the bytes end before the number does; or no number.
-#[derive(Drop)]
+#[derive(Clone, Copy)]
 pub enum Number {
     Value(u32, Cursor),
     Cut(Begun),

@@ -17,7 +17,7 @@ use model::{Answer, Errno, Phase, Refusal};
 use state::{in_phase, is_fresh, is_sound, store_of_interrupts};
 
 // Where a walk over the bytes of a record came to.
-#[derive(Drop)]
+#[derive(Clone, Copy)]
 pub enum Walk {
     // All values are read: the place after them.
     Past(Cursor),

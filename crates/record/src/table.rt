@@ -19,7 +19,7 @@ use state::{VcpuIndex, block_at, ids_below, spi_bank_at};
 use words::{config_of, edges_of, is_within};
 
 // A block of words whose fields differ: a vCPU's block, a bank of SPIs, the bank of the SPI word 31, of which the interrupts from 1020 on do not exist.
-#[derive(Drop)]
+#[derive(Clone, Copy)]
 pub enum Block {
     Vcpu,
     Bank,
@@ -27,7 +27,7 @@ pub enum Block {
 }
 
 // How a word of the state is shown in the record, and which words may be there.
-#[derive(Drop)]
+#[derive(Clone, Copy)]
 pub enum Kind {
     // No word: this number alone.
     Exactly(u32),
@@ -44,7 +44,7 @@ pub enum Kind {
 }
 
 // A part of the record: `len` words, from word `first` of what starts at `base` on.
-#[derive(Drop)]
+#[derive(Clone, Copy)]
 pub struct Part {
     pub base: usize,
     pub first: usize,
@@ -53,14 +53,14 @@ pub struct Part {
 }
 
 // A place in a record: the number of a part, and of a word of it.
-#[derive(Drop)]
+#[derive(Clone, Copy)]
 pub struct Place {
     pub part: usize,
     pub word: usize,
 }
 
 // What fixes the table: the interrupt count and the number of vCPUs.
-#[derive(Drop)]
+#[derive(Clone, Copy)]
 pub struct Shape {
     pub count: usize,
     pub vcpus: usize,

@@ -1,4 +1,5 @@
 // Runs the guest's accesses to memory-mapped registers, line changes and attributes of every group that names registers, and prints their answers and the words that they change. The file stdout holds what document 01 gives for each.
+#![tactic(auto)]
 use report::{say, say_answer, say_changed, say_hex};
 use state::{Mpidr, VcpuIndex};
 
@@ -52,7 +53,7 @@ fn run(s: &mut [u32], on: bool) {
 // ---- calls
 
 // Where an access goes.
-#[derive(Drop)]
+#[derive(Clone, Copy)]
 enum Place {
     Distributor,
     Frame(usize),
@@ -528,7 +529,7 @@ const CHANGES: [[u64; 4]; 9] = [
 ];
 
 // What the rows of a table are; the last three are run on four devices.
-#[derive(Drop)]
+#[derive(Clone, Copy)]
 enum Kind {
     Distributor,
     Lines,
@@ -615,7 +616,7 @@ fn rows(name: &[u8], kind: Kind, table: &[[u64; 4]]) {
 // ---- lines
 
 // A change of the line of an SPI; a word of the distributor written by a guest; an attribute set.
-#[derive(Drop)]
+#[derive(Clone, Copy)]
 enum Call {
     Line(usize, bool),
     Write(u64, u64),

@@ -11,7 +11,7 @@ use model::layout::PRIORITIES;
 use words::{byte_mask, priority_under};
 
 // The bytes of a word that an access names.
-#[derive(Drop)]
+#[derive(Clone, Copy)]
 pub enum Bytes {
     All,
     One(u32),

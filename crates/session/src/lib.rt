@@ -1,9 +1,10 @@
 // A session of `drill`: lines read from one descriptor, their answers written to another. What is read and written no contract can say; the rest is in `console`.
+#![tactic(auto)]
 ghost use Rattle.std.specs.Prelude.{◌≡◌, [], ◌≤◌, length, take};
 ghost use Rattle.session.specs.Inputs.{begins, ReadOn};
 
 // Whether there is more to read, and how many bytes of the line begun are kept.
-#[derive(Drop)]
+#[derive(Clone, Copy)]
 pub struct Turn {
     pub goes_on: bool,
     pub kept: usize,

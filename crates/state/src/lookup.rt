@@ -10,15 +10,15 @@ use crate::parts::block_at;
 use model::layout::{AFFINITY, COUNT, INITIALISED, RUNNING, VCPUS};
 
 // The index of a vCPU, from 0 up in the order added.
-#[derive(Drop)]
+#[derive(Clone, Copy)]
 pub struct VcpuIndex(pub usize);
 
 // An affinity Aff3.Aff2.Aff1.Aff0 as one number.
-#[derive(Drop)]
+#[derive(Clone, Copy)]
 pub struct Mpidr(pub u32);
 
 // What lookup of an affinity finds.
-#[derive(Drop)]
+#[derive(Clone, Copy)]
 pub enum Found {
     At(VcpuIndex),
     Nowhere,
