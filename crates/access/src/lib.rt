@@ -1,5 +1,6 @@
 // The guest's accesses to memory-mapped and system registers. Each has its refusals in document 01's order, EFAULT first.
 #![tactic(auto)]
+
 ghost use Rattle.std.specs.Prelude.{◌≡◌, [], ◌∷◌, true, ◌*◌, ◌%◌, ◌^◌, ◌<◌, eqb};
 ghost use Rattle.model.specs.Layout.{most_vcpus};
 ghost use Rattle.model.specs.Sound.{sound};

@@ -1,5 +1,6 @@
 // The attribute calls, of any group: get and set.
 #![tactic(auto)]
+
 mod item;
 mod lookup;
 

@@ -1,5 +1,6 @@
 // The public calls. Each takes any numbers and any lent words and bytes, and promises `Does` of its case of `call`: its answer, words and bytes. `save`, which hands back a part of its buffer, promises `Saves`.
 #![tactic(auto)]
+
 ghost use Rattle.std.specs.Prelude.{◌≡◌, [], ◌∷◌, nat_abs};
 ghost use Rattle.model.specs.Refusals.{errno, number};
 ghost use Rattle.model.specs.Calls.{Does, call, make, add_vcpu, set_running, change_line, read_distributor, write_distributor, read_frame, write_frame, read_system, write_system, query_signal, get_attribute, set_attribute, save, restore, Saves};

@@ -1,5 +1,6 @@
 // Runs sessions of calls, each line with the answer that it must give, and prints every difference. docs/TESTING.md has the language.
 #![tactic(auto)]
+
 mod command;
 mod parse;
 mod print;

@@ -1,5 +1,6 @@
 // Runs the sessions of docs/class, a new device for each, and prints the answers under the session's name.
 #![tactic(auto)]
+
 use libc::STDOUT_FILENO;
 
 fn run_file(name: &[u8]) {

@@ -1,5 +1,6 @@
 // The language of `drill`: a line of bytes is parsed, makes one call on the lent state, and its answer is printed into a lent buffer.
 #![tactic(auto)]
+
 pub mod parse;
 pub mod print;
 

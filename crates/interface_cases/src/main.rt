@@ -1,5 +1,6 @@
 // Runs the system registers, acknowledge and end of interrupt, SGIs and the signal query, and prints their answers and the words that they change. The file stdout holds what document 01 gives for each.
 #![tactic(auto)]
+
 use report::{say, say_answer, say_changed, say_hex};
 use state::{Mpidr, VcpuIndex};
 

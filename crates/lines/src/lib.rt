@@ -1,5 +1,6 @@
 // Line changes and the signal query. Each has its refusals in document 01's order, EFAULT first.
 #![tactic(auto)]
+
 ghost use Rattle.std.specs.Prelude.{◌≡◌, [], ◌∷◌, true, cond, ◌≤◌, ◌<◌, length};
 ghost use Rattle.model.specs.Layout.{state_length, most_vcpus, vcpus};
 ghost use Rattle.model.specs.Interrupts.{is_private};

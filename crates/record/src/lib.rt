@@ -1,5 +1,6 @@
 // The record: seven-bit numbers, the table of its parts, save, restore.
 #![tactic(auto)]
+
 pub mod number;
 pub mod restore;
 pub mod save;

@@ -1,5 +1,6 @@
 // Runs save and restore, and prints their answers, the bytes that save fills and the words that restore changes. The file stdout holds what document 01 gives for each.
 #![tactic(auto)]
+
 ghost use Rattle.std.specs.Prelude.{◌≤◌};
 
 use libc::STDOUT_FILENO;

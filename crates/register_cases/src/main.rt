@@ -1,5 +1,6 @@
 // Runs the guest's accesses to memory-mapped registers, line changes and attributes of every group that names registers, and prints their answers and the words that they change. The file stdout holds what document 01 gives for each.
 #![tactic(auto)]
+
 use report::{say, say_answer, say_changed, say_hex};
 use state::{Mpidr, VcpuIndex};
 

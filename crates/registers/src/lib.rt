@@ -1,5 +1,6 @@
 // The memory-mapped registers: decode of an offset, and reading and writing one word of a register, guest's and attribute's.
 #![tactic(auto)]
+
 pub mod decode;
 mod edges;
 mod flags;

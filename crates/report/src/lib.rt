@@ -1,5 +1,6 @@
 // What the programs of cases print: texts, numbers, answers, and words of the state.
 #![tactic(auto)]
+
 use calls::magnitude;
 use libc::STDOUT_FILENO;
 

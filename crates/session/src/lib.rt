@@ -1,5 +1,6 @@
 // A session of `drill`: lines read from one descriptor, their answers written to another. What is read and written no contract can say; the rest is in `console`.
 #![tactic(auto)]
+
 ghost use Rattle.std.specs.Prelude.{◌≡◌, [], ◌≤◌, length, take};
 ghost use Rattle.session.specs.Inputs.{begins, ReadOn};
 

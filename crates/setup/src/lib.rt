@@ -1,5 +1,6 @@
 // The calls that set a device up: make, add vCPU, attribute groups 3 and 4, running flag. Each has its refusals in document 01's order, EFAULT first, then its writer.
 #![tactic(auto)]
+
 ghost use Rattle.std.specs.Prelude.{◌≡◌, [], ◌∷◌, cond, not, ◌&&◌, ◌||◌, ◌<◌, eqb, ltb, length, replicate, set};
 ghost use Rattle.model.specs.Values.{edge_bits};
 ghost use Rattle.model.specs.Layout.{state_length, most_vcpus, initialised_at, is_initialised, count, count_at, vcpus, edge_field, affinity_field, bpr_field, least_bpr};

@@ -1,5 +1,6 @@
 // Runs the set-up calls and prints their answers and the words that they leave. The file stdout holds what document 01 gives for each.
 #![tactic(auto)]
+
 use report::{say, say_decimal, say_hex, say_signed, say_word};
 use state::{Found, Mpidr, VcpuIndex};
 

@@ -1,5 +1,6 @@
 // The lent state: lookup between vCPU index and affinity, the places of its parts and the stores into them, the test whether it is sound, and the refusals of a call that names a vCPU.
 #![tactic(auto)]
+
 mod lookup;
 mod masks;
 mod parts;

@@ -1,5 +1,6 @@
 // The system registers of a vCPU: a guest's read and write of one.
 #![tactic(auto)]
+
 pub mod decode;
 pub mod plain;
 mod sgi;

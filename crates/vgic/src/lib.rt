@@ -1,5 +1,6 @@
 // The public calls for C: numbers and slices only. Each hands on to the function of `calls` that has its name, `vgic_save` to `fill`, and promises the same: `Does` of its case of `call`.
 #![tactic(auto)]
+
 ghost use Rattle.std.specs.Prelude.{[], ◌∷◌};
 ghost use Rattle.model.specs.Calls.{Does, call, make, add_vcpu, set_running, change_line, read_distributor, write_distributor, read_frame, write_frame, read_system, write_system, query_signal, get_attribute, set_attribute, save, restore};
 

@@ -1,5 +1,6 @@
 // Functions on words of 32 bits. Each contract cites a definition by bits or bytes.
 #![tactic(auto)]
+
 ghost use Rattle.std.specs.Prelude.{◌≡◌, ◌||◌, ◌*◌, ◌/◌, ◌^◌, ◌<◌, ◌≤◌, length};
 ghost use Rattle.model.specs.Words.{bit, with_bit, spread, lowest, masked};
 ghost use Rattle.model.specs.Sound.{fits};
