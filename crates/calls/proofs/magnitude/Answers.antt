@@ -13,8 +13,7 @@ use lib.Signed.{lt_z, mag, non_neg}
 use mir.Syntax.{w64}
 use mir.Val.{Fits, SFits, to_z, of_z}
 use mir.Facts.{to_z-of_z, sfits_to_z, Fits-of_z, Fits-nat_abs}
-use Rattle.calls.proofs.magnitude.Statement.{statement}
-use Rattle.calls.proofs.magnitude.Tie as tie
+use Rattle.calls.proofs.magnitude.Goals as goal
 
 not-below : (y : ℤ) → lt_z y (pos 0) ≡ false → T (non_neg y)
 not-below (pos n) h = tt
@@ -53,7 +52,17 @@ read-flipped y f below = rw (to_z-of_z f) (flips-back y (rw (to_z-of_z f) at bel
 
 ruleset signed = (not-below, subtracts, casts, cast_fits, adds, sfits_to_z, Fits-of_z, Fits-nat_abs, tt)
 
-pub magnitude-spec : {M : Type 1} → statement M
-magnitude-spec =
-    tie.close
-    (tie.spec (λ c. search signed) (λ c. search signed) (λ c. search signed) (λ c. search (read-flipped, sfits_of)) (λ c. search signed) (λ c. search rules))
+pub overflow_sub-result : goal.overflow_sub-result
+overflow_sub-result c = search signed
+
+pub overflow_cast-result : goal.overflow_cast-result
+overflow_cast-result c = search signed
+
+pub overflow_add-result : goal.overflow_add-result
+overflow_add-result c = search signed
+
+pub returns-then-r-lt0 : goal.returns-then-r-lt0
+returns-then-r-lt0 c = search (read-flipped, sfits_of)
+
+pub overflow_cast-result-2 : goal.overflow_cast-result-2
+overflow_cast-result-2 c = search signed
