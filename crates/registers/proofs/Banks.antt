@@ -11,7 +11,7 @@ use lib.Dec.{eqb, leb}
 use lib.ListN.{set}
 use Rattle.model.specs.Words.{bit, gather, spread}
 use Rattle.model.specs.Layout.{most_vcpus, word, bank}
-use Rattle.model.specs.Interrupts.{flag, edge, priority}
+use Rattle.model.specs.Interrupts.{edge, priority}
 use Rattle.model.specs.Registers.{banks, flags, shown_to, rule_for, shows, has, seen_by, read_flags, read_priority, read_config, write_flags, write_priority, write_config}
 use Rattle.model.specs.declared.By.{By}
 use Rattle.model.specs.declared.View.{View}

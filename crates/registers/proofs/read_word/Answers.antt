@@ -1,7 +1,6 @@
 -- `registers::read_word` meets its contract.
 use Rattle.model.specs.Registers.{read}
 use Rattle.registers.proofs.Requests.{asked, enables-fit, typer-fits, reads_as, reads-status, reads-typer, reads-affinity}
-use borrow.Author.Rules.{rules}
 use Rattle.registers.proofs.read_word.Goals as goal
 
 pub bounds-s-3 : goal.bounds-s-3

@@ -1,7 +1,6 @@
 -- `registers::write_word` meets its contract.
 use Rattle.model.specs.Registers.{write}
 use Rattle.registers.proofs.Requests.{asked, writes_as, writes-control, writes-whole}
-use borrow.Author.Rules.{rules}
 use Rattle.registers.proofs.write_word.Goals as goal
 
 pub bounds-s-3 : goal.bounds-s-3

@@ -1,7 +1,6 @@
 -- `setup::add_refusal` meets its contract.
 use Rattle.state.proofs.Admitted.{inside, refusing}
 use Rattle.model.specs.Calls.{describe}
-use borrow.Author.Rules.{rules}
 use Rattle.setup.proofs.add_refusal.Goals as goal
 
 pub returns-then-not-is_sound : goal.returns-then-not-is_sound

@@ -2,7 +2,6 @@
 use Rattle.model.specs.Calls.{describe}
 use Rattle.state.proofs.Admitted.{answering, admitted-size}
 use Rattle.setup.proofs.Admitted.{add-room}
-use borrow.Author.Rules.{rules}
 use Rattle.setup.proofs.add_vcpu.Goals as goal
 
 pub returns-in-Refuse : goal.returns-in-Refuse

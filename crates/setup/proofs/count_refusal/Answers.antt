@@ -1,7 +1,6 @@
 -- `setup::count_refusal` meets its contract.
 use Rattle.state.proofs.Admitted.{inside, refusing}
 use Rattle.model.specs.Calls.{set_checks}
-use borrow.Author.Rules.{rules}
 use Rattle.setup.proofs.count_refusal.Goals as goal
 
 pub returns-then-not-is_sound : goal.returns-then-not-is_sound

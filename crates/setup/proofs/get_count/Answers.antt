@@ -3,7 +3,6 @@ use Rattle.model.specs.Attributes.{group_of}
 use Rattle.model.specs.Calls.{get_checks, get_value, describe}
 use Rattle.model.proofs.Refused.{fault-is, none_is}
 use Rattle.state.proofs.Admitted.{inside, refusing, answering}
-use borrow.Author.Rules.{rules}
 use Rattle.setup.proofs.get_count.Goals as goal
 
 pub returns-then-not-is_sound : goal.returns-then-not-is_sound

@@ -3,7 +3,6 @@ use Rattle.model.specs.Attributes.{group_of}
 use Rattle.model.specs.Calls.{get_checks, describe}
 use Rattle.model.proofs.Refused.{fault-is, refuse-is}
 use Rattle.state.proofs.Admitted.{refusing, answering}
-use borrow.Author.Rules.{rules}
 use Rattle.setup.proofs.get_initialise.Goals as goal
 
 pub returns-then-not-is_sound : goal.returns-then-not-is_sound

@@ -2,7 +2,6 @@
 use Rattle.model.specs.Attributes.{group_of}
 use Rattle.model.specs.Calls.{set_checks, set_state, describe}
 use Rattle.state.proofs.Admitted.{answering, admitted-size}
-use borrow.Author.Rules.{rules}
 use Rattle.setup.proofs.initialise.Goals as goal
 
 pub returns-in-Refuse : goal.returns-in-Refuse

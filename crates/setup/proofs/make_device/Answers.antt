@@ -7,7 +7,6 @@ use Prim.Native.Nat.{ℕ}
 use lib.ListN.{length, replicate}
 use Rattle.model.specs.Calls.{made, describe}
 use Rattle.model.proofs.Refused.{refuses, fault-is, none_is, grants}
-use borrow.Author.Rules.{rules}
 use Rattle.setup.proofs.make_device.Goals as goal
 
 all-zero : (s t : List ℕ) → length s ≡ 1760 → t ≡ replicate (length s) 0 → t ≡ replicate 1760 0

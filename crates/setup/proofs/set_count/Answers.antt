@@ -4,7 +4,6 @@ use Rattle.model.specs.Calls.{set_checks, set_state, describe}
 use lib.Dec.{lit<}
 use Rattle.state.proofs.Admitted.{answering, admitted-inside}
 use Rattle.setup.proofs.Admitted.{count_fits}
-use borrow.Author.Rules.{rules}
 use Rattle.setup.proofs.set_count.Goals as goal
 
 pub returns-in-Refuse : goal.returns-in-Refuse

@@ -1,6 +1,5 @@
 -- `priority::acknowledge::running_level` meets its contract.
 use Rattle.priority.proofs.Offers.{lowest-level}
-use borrow.Author.Rules.{rules}
 use Rattle.priority.proofs.acknowledge.running_level.Goals as goal
 
 pub returns : goal.returns

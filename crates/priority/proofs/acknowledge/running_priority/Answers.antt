@@ -1,6 +1,5 @@
 -- `priority::acknowledge::running_priority` meets its contract.
 use Rattle.priority.proofs.Offers.{running, idle}
-use borrow.Author.Rules.{rules}
 use Rattle.priority.proofs.acknowledge.running_priority.Goals as goal
 
 pub returns-then-level-lt32 : goal.returns-then-level-lt32

@@ -1,6 +1,5 @@
 -- `priority::acknowledge::signal` meets its contract.
 use Rattle.priority.proofs.Offers.{signal-one, signal-zero, no-signal}
-use borrow.Author.Rules.{rules}
 use Rattle.priority.proofs.acknowledge.signal.Goals as goal
 
 pub returns-then-is_given : goal.returns-then-is_given

@@ -1,6 +1,5 @@
 -- `priority::end::drop_level` meets its contract.
 use Rattle.priority.proofs.Ended.{dropped-active, dropped-inactive}
-use borrow.Author.Rules.{rules}
 use Rattle.priority.proofs.end.drop_level.Goals as goal
 
 pub returns-then-not-mode : goal.returns-then-not-mode

@@ -1,6 +1,5 @@
 -- `priority::search::better` meets its contract.
 use Rattle.priority.proofs.Best.{not-here, lower-rank, no-lower-rank}
-use borrow.Author.Rules.{rules}
 use Rattle.priority.proofs.search.better.Goals as goal
 
 pub returns-then-found-best : goal.returns-then-found-best

@@ -1,10 +1,10 @@
 -- `priority::search::find_best` meets its contract.
-use Prim.Native.Nat.{◌+◌, ◌-◌, ◌*◌, ◌≤◌, ◌<◌}
+use Prim.Native.Nat.{◌+◌, ◌*◌, ◌≤◌, ◌<◌}
 use native.Mathlib.Omega.{arith}
 use lib.Count.{count_trailing_zeros, trailing_le}
 use Rattle.model.specs.Layout.{count}
 use Rattle.words.proofs.Over.{trailing_lt}
-use Rattle.priority.proofs.Best.{Outer, Inner, begin, enter, onward, left-early, leave, finish}
+use Rattle.priority.proofs.Best.{begin, enter, onward, left-early, leave, finish}
 use borrow.Author.Rules.{rules}
 use Rattle.priority.proofs.search.find_best.Goals as goal
 

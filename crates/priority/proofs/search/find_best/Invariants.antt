@@ -1,11 +1,6 @@
 -- `priority::search::find_best` meets its contract.
-use Prim.Native.Nat.{◌+◌, ◌-◌, ◌*◌, ◌≤◌, ◌<◌}
-use native.Mathlib.Omega.{arith}
-use lib.Count.{count_trailing_zeros, trailing_le}
-use Rattle.model.specs.Layout.{count}
-use Rattle.words.proofs.Over.{trailing_lt}
-use Rattle.priority.proofs.Best.{Outer, Inner, begin, enter, onward, left-early, leave, finish}
-use borrow.Author.Rules.{rules}
+use Prim.Native.Nat.{◌-◌, ◌≤◌}
+use Rattle.priority.proofs.Best.{Outer, Inner}
 use Rattle.priority.proofs.search.find_best.Given as goal
 
 abbrev pub invariant-loop-ready : goal.invariant-loop-ready

@@ -1,6 +1,5 @@
 -- `priority::search::ready_mask` meets its contract.
 use Rattle.priority.proofs.Ready.{ready-part}
-use borrow.Author.Rules.{rules}
 use Rattle.priority.proofs.search.ready_mask.Goals as goal
 
 pub returns : goal.returns

@@ -1,6 +1,5 @@
 -- `registers::edges::edges_meant` meets its contract.
 use Rattle.registers.proofs.Meant.{low_half, high_half}
-use borrow.Author.Rules.{rules}
 use Rattle.registers.proofs.edges.edges_meant.Goals as goal
 
 pub returns-then-k-eq0 : goal.returns-then-k-eq0

@@ -5,7 +5,6 @@ use Rattle.model.specs.Registers.{flag_after}
 use Rattle.words.specs.Words.{under}
 use Rattle.words.proofs.Expressions.{low_bits, gathered}
 use Rattle.registers.specs.Words.{edges_under}
-use borrow.Author.Rules.{rules}
 use Rattle.registers.proofs.edges.edges_under.Goals as goal
 
 pub returns : goal.returns

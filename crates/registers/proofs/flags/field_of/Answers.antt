@@ -1,6 +1,5 @@
 -- `registers::flags::field_of` meets its contract.
 use lib.Dec.{lit<}
-use borrow.Author.Rules.{rules}
 use Rattle.model.specs.Registers.{flags}
 use Rattle.registers.proofs.flags.field_of.Goals as goal
 

@@ -1,6 +1,5 @@
 -- `registers::flags::least_of` meets its contract.
 use lib.Dec.{lit<}
-use borrow.Author.Rules.{rules}
 use Rattle.model.specs.Registers.{flags}
 use Rattle.registers.proofs.flags.least_of.Goals as goal
 

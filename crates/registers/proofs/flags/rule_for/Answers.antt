@@ -1,7 +1,6 @@
 -- `registers::flags::rule_for` meets its contract.
 use Rattle.model.specs.Registers.{flags, rule_for}
 use Rattle.registers.proofs.Leaves.{row_is}
-use borrow.Author.Rules.{rules}
 use Rattle.registers.proofs.flags.rule_for.Goals as goal
 
 pub returns-in-Group : goal.returns-in-Group

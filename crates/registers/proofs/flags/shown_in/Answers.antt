@@ -1,5 +1,4 @@
 -- `registers::flags::shown_in` meets its contract.
-use borrow.Author.Rules.{rules}
 use Rattle.registers.specs.Words.{shown_in}
 use Rattle.registers.proofs.flags.shown_in.Goals as goal
 

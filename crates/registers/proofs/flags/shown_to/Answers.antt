@@ -1,7 +1,6 @@
 -- `registers::flags::shown_to` meets its contract.
 use Rattle.model.specs.Registers.{flags, shown_to}
 use Rattle.registers.proofs.Leaves.{row_is}
-use borrow.Author.Rules.{rules}
 use Rattle.registers.proofs.flags.shown_to.Goals as goal
 
 pub returns-in-Group : goal.returns-in-Group

@@ -1,6 +1,5 @@
 -- `registers::flags::shows` meets its contract.
 use Rattle.registers.specs.Words.{theirs}
-use borrow.Author.Rules.{rules}
 use Rattle.registers.proofs.flags.shows.Goals as goal
 
 pub returns-in-Guest : goal.returns-in-Guest

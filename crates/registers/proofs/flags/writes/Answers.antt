@@ -1,6 +1,5 @@
 -- `registers::flags::writes` meets its contract.
 use Rattle.registers.specs.Words.{theirs}
-use borrow.Author.Rules.{rules}
 use Rattle.registers.proofs.flags.writes.Goals as goal
 
 pub returns-in-Guest : goal.returns-in-Guest

@@ -2,7 +2,6 @@
 -- the one byte is one of the four
 use mathlib.Core.Path.{◌≡◌}
 use Prim.Native.Nat.{ℕ, ◌<◌}
-use borrow.Author.Rules.{rules}
 use Rattle.model.specs.Words.{gather}
 use Rattle.words.specs.Words.{byte_mask}
 use Rattle.registers.specs.Words.{names, Byte}

@@ -1,6 +1,5 @@
 -- `registers::priorities::priorities_meant` meets its contract.
 use Rattle.registers.proofs.Meant.{four-meant, no-four, four-fits}
-use borrow.Author.Rules.{rules}
 use Rattle.registers.proofs.priorities.priorities_meant.Goals as goal
 
 pub overflow_mul-k : goal.overflow_mul-k

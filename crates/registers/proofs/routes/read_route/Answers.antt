@@ -1,5 +1,4 @@
 -- `registers::routes::read_route` meets its contract.
-use borrow.Author.Rules.{rules}
 use Rattle.model.specs.Registers.{read_route}
 use Rattle.registers.proofs.Leaves.{route-place}
 use Rattle.registers.proofs.routes.read_route.Goals as goal

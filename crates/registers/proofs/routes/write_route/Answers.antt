@@ -1,7 +1,6 @@
 -- `registers::routes::write_route` meets its contract.
 use Rattle.model.specs.Registers.{write_route}
 use Rattle.registers.proofs.Leaves.{route-written}
-use borrow.Author.Rules.{rules}
 use Rattle.registers.proofs.routes.write_route.Goals as goal
 
 pub returns-then-k-has_id : goal.returns-then-k-has_id

@@ -1,6 +1,5 @@
 -- `registers::single::frame_typer` meets its contract.
 use native.Mathlib.Omega.{arith}
-use borrow.Author.Rules.{rules}
 use borrow.Author.Tests.{eq-eqb, ne_eqb}
 use Rattle.model.specs.Registers.{frame_typer}
 use Rattle.registers.proofs.single.frame_typer.Goals as goal

@@ -7,7 +7,6 @@ use Rattle.model.specs.Layout.{block}
 use Rattle.model.specs.Registers.{seen_by, status_at}
 use Rattle.model.specs.declared.View.{View}
 use Rattle.model.specs.declared.View.TheVariants.{Frame}
-use borrow.Author.Rules.{rules}
 use Rattle.registers.proofs.single.status_at.Goals as goal
 
 in_frame : (x : View) (u v at : ℕ) → x ≡ Frame u → v ≡ seen_by x → at ≡ block v → at + 18 ≡ status_at x

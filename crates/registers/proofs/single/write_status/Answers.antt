@@ -8,7 +8,6 @@ use Rattle.model.specs.Registers.{seen_by, status_at, written_status}
 use Rattle.model.specs.declared.By.{By}
 use Rattle.model.specs.declared.View.{View}
 use Rattle.model.specs.declared.View.TheVariants.{Distributor, Frame}
-use borrow.Author.Rules.{rules}
 use Rattle.registers.proofs.single.write_status.Goals as goal
 
 module _ (s : List ℕ) (by : By) (x : View) (at w value : ℕ) (e : at ≡ status_at x) (q : w ≡ written_status by (word s at) value) where

@@ -1,7 +1,6 @@
 -- `registers::single::written_status` meets its contract.
 use native.Mathlib.Omega.{arith}
 use lib.Bits.{and_mask}
-use borrow.Author.Rules.{rules}
 use Rattle.model.specs.Registers.{written_status}
 use Rattle.words.proofs.Expressions.{low_bits, itself, ands, nots}
 use Rattle.registers.proofs.single.written_status.Goals as goal

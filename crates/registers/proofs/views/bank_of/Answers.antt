@@ -1,6 +1,5 @@
 -- `registers::views::bank_of` meets its contract.
 use Rattle.registers.proofs.Banks.{view-inside, bank-inside, view-bank}
-use borrow.Author.Rules.{rules}
 use Rattle.registers.proofs.views.bank_of.Goals as goal
 
 pub bank_at-requires : goal.bank_at-requires

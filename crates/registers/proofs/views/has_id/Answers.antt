@@ -1,6 +1,5 @@
 -- `registers::views::has_id` meets its contract.
 use Rattle.registers.proofs.Meant.{has-distributor, has-frame}
-use borrow.Author.Rules.{rules}
 use Rattle.registers.proofs.views.has_id.Goals as goal
 
 pub returns-in-Distributor : goal.returns-in-Distributor

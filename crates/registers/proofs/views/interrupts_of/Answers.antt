@@ -1,6 +1,5 @@
 -- `registers::views::interrupts_of` meets its contract.
 use Rattle.registers.proofs.Meant.{none-meant, last-meant, all-meant, id-fits}
-use borrow.Author.Rules.{rules}
 use Rattle.registers.proofs.views.interrupts_of.Goals as goal
 
 pub overflow_mul-k : goal.overflow_mul-k

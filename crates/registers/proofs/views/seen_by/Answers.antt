@@ -1,5 +1,4 @@
 -- `registers::views::seen_by` meets its contract.
-use borrow.Author.Rules.{rules}
 use Rattle.model.specs.Registers.{seen_by}
 use Rattle.registers.proofs.views.seen_by.Goals as goal
 

@@ -1,5 +1,4 @@
 -- `state::lookup::affinity_of` meets its contract.
-use borrow.Author.Rules.{rules}
 use Rattle.state.proofs.lookup.affinity_of.Goals as goal
 
 pub returns : goal.returns

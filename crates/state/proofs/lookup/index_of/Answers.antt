@@ -9,7 +9,6 @@ use Rattle.model.specs.Layout.{vcpus, affinity}
 use Rattle.model.specs.Attributes.{index_of}
 use Rattle.state.specs.Lookup.{found}
 use Rattle.state.specs.declared.lookup.Found.TheVariants.{At, Nowhere}
-use borrow.Author.Rules.{rules}
 use Rattle.state.proofs.lookup.index_of.Goals as goal
 
 module _ (s : List ℕ) (a n v : ℕ) (e : n ≡ vcpus s) (q : v ≡ lowest (λ u. eqb (affinity s u) a) n 0) where

@@ -1,7 +1,6 @@
 -- `state::lookup::is_unused` meets its contract: the search finds no vCPU.
 use Rattle.model.specs.Sound.{unused}
 use Rattle.state.proofs.Lowest.{none_found}
-use borrow.Author.Rules.{rules}
 use Rattle.state.proofs.lookup.is_unused.Goals as goal
 
 pub returns : goal.returns

@@ -1,12 +1,9 @@
 -- `state::lookup::none_runs` meets its contract: none is the test of the vCPUs passed.
-use Prim.Native.Nat.{◌-◌, ◌≤◌}
 use mathlib.Core.Path.{◌≡◌, refl}
 use native.Mathlib.Numerals.{add-one}
 use native.Mathlib.Omega.{arith}
-use lib.Dec.{eqb}
 use borrow.Author.Rules.{rules}
 use Rattle.model.specs.Words.{all_below}
-use Rattle.model.specs.Layout.{running}
 use Rattle.state.proofs.lookup.none_runs.Goals as goal
 
 pub loop-v-init : goal.loop-v-init

@@ -1,10 +1,7 @@
 -- `state::lookup::none_runs` meets its contract: none is the test of the vCPUs passed.
 use Prim.Native.Nat.{◌-◌, ◌≤◌}
-use mathlib.Core.Path.{◌≡◌, refl}
-use native.Mathlib.Numerals.{add-one}
-use native.Mathlib.Omega.{arith}
+use mathlib.Core.Path.{◌≡◌}
 use lib.Dec.{eqb}
-use borrow.Author.Rules.{rules}
 use Rattle.model.specs.Words.{all_below}
 use Rattle.model.specs.Layout.{running}
 use Rattle.state.proofs.lookup.none_runs.Given as goal

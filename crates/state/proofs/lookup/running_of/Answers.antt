@@ -1,5 +1,4 @@
 -- `state::lookup::running_of` meets its contract.
-use borrow.Author.Rules.{rules}
 use Rattle.state.proofs.lookup.running_of.Goals as goal
 
 pub returns : goal.returns

@@ -3,7 +3,6 @@ use Prim.Native.Nat.{ℕ, zero, suc, ◌+◌, ◌*◌, ◌≤◌}
 use mathlib.Core.Path.{◌≡◌, refl, sym, ◌∙◌, ap}
 use native.Mathlib.Omega.{arith}
 use Rattle.model.specs.Layout.{block, bank}
-use borrow.Author.Rules.{rules}
 use Rattle.state.proofs.parts.bank_at.Goals as goal
 
 first : (v w r : ℕ) → w ≡ 0 → r ≡ block v → r + 32 ≤ 272 → (r ≡ bank v w) × (r + 16 ≤ 768)

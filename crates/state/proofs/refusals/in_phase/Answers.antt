@@ -1,6 +1,5 @@
 -- `state::refusals::in_phase` meets its contract.
 use Rattle.state.proofs.Admitted.{phase-initialised, phase-changing, phase-stopped}
-use borrow.Author.Rules.{rules}
 use Rattle.state.proofs.refusals.in_phase.Goals as goal
 
 pub returns-in-Initialised : goal.returns-in-Initialised

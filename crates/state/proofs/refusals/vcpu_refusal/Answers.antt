@@ -1,6 +1,5 @@
 -- `state::refusals::vcpu_refusal` meets its contract.
 use Rattle.state.proofs.Admitted.{inside, refusing}
-use borrow.Author.Rules.{rules}
 use Rattle.state.proofs.refusals.vcpu_refusal.Goals as goal
 
 pub returns-then-not-is_sound : goal.returns-then-not-is_sound

@@ -1,6 +1,5 @@
 -- `state::soundness::fresh_fits` meets its contract: each pass is clear exactly where its words fit, since its row is the opposite of the table.
 use mathlib.Core.Path.{refl}
-use borrow.Author.Rules.{rules}
 use Rattle.model.specs.Words.{all_below}
 use Rattle.state.proofs.Opposite.{opposite}
 use Rattle.state.proofs.Zones.{fresh-same}

@@ -1,8 +1,6 @@
 -- `state::soundness::join_words` meets its contract: each half is joined as far as it was passed.
-use Prim.Native.Nat.{◌-◌, ◌≤◌}
 use native.Mathlib.Omega.{arith}
-use borrow.Author.Rules.{rules}
-use Rattle.state.proofs.Joined.{Halves, halves-none, halves-more, halves-joined}
+use Rattle.state.proofs.Joined.{halves-none, halves-more, halves-joined}
 use Rattle.state.proofs.soundness.join_words.Goals as goal
 
 pub loop-i-init : goal.loop-i-init

@@ -1,11 +1,8 @@
 -- `state::soundness::misfit_row` meets its contract: what is joined is clear of the words passed.
-use Prim.Native.Nat.{◌+◌, ◌-◌, ◌≤◌}
 use mathlib.Core.Path.{◌≡◌}
 use native.Mathlib.Nat.{add-zero}
 use native.Mathlib.Omega.{arith}
-use borrow.Author.Rules.{rules}
 use lib.ListN.{length}
-use Rattle.state.specs.Clear.{Apart, Clear}
 use Rattle.state.proofs.Joined.{clear_none, clear-word}
 use Rattle.state.proofs.soundness.misfit_row.Goals as goal
 

@@ -1,5 +1,4 @@
 -- `state::soundness::misfit_words` meets its contract.
-use borrow.Author.Rules.{rules}
 use Rattle.state.proofs.Joined.{joins-apart}
 use Rattle.state.proofs.soundness.misfit_words.Goals as goal
 

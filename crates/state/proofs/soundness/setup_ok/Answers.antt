@@ -1,5 +1,4 @@
 -- `state::soundness::setup_ok` meets its contract: it tests in the terms of the definition.
-use borrow.Author.Rules.{rules}
 use Rattle.model.specs.Sound.{setup}
 use Rattle.state.proofs.soundness.setup_ok.Goals as goal
 

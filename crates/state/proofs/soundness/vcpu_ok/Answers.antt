@@ -1,6 +1,5 @@
 -- `state::soundness::vcpu_ok` meets its contract: it tests in the terms of the definition.
 use Rattle.model.specs.Sound.{vcpu_ok}
-use borrow.Author.Rules.{rules}
 use Rattle.state.proofs.soundness.vcpu_ok.Goals as goal
 
 pub returns : goal.returns

@@ -1,9 +1,6 @@
 -- `state::soundness::vcpus_ok` meets its contract: ok is the test of the vCPUs passed.
 use Prim.Native.Nat.{◌-◌, ◌≤◌}
-use mathlib.Core.Path.{◌≡◌, refl}
-use native.Mathlib.Numerals.{add-one}
-use native.Mathlib.Omega.{arith}
-use borrow.Author.Rules.{rules}
+use mathlib.Core.Path.{◌≡◌}
 use Rattle.model.specs.Words.{all_below}
 use Rattle.model.specs.Sound.{vcpu_ok}
 use Rattle.state.proofs.soundness.vcpus_ok.Given as goal

@@ -2,7 +2,6 @@
 use lib.Dec.{lit<, lit≤}
 use Rattle.model.specs.Interface.{plain_read}
 use Rattle.system.proofs.Registers.{group-of, mode-fits, reads_word}
-use borrow.Author.Rules.{rules}
 use Rattle.system.proofs.plain.read_plain.Goals as goal
 
 pub place_of-requires : goal.place_of-requires

@@ -2,7 +2,6 @@
 use lib.Dec.{lit<, lit≤}
 use Rattle.model.specs.Interface.{plain_write}
 use Rattle.system.proofs.Registers.{group-of, writes_as, writes-word, writes-control, writes-point}
-use borrow.Author.Rules.{rules}
 use Rattle.system.proofs.plain.write_plain.Goals as goal
 
 pub place_of-requires : goal.place_of-requires

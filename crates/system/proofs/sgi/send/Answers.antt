@@ -1,7 +1,4 @@
 -- `system::sgi::send` meets its contract: the first t vCPUs are done.
-use Prim.Native.Nat.{◌-◌, ◌≤◌}
-use mathlib.Core.Path.{◌≡◌}
-use lib.ListN.{length}
 use Rattle.model.specs.Interface.{sgi_sent}
 use Rattle.system.proofs.Sgis.{sent-more, sent-all}
 use borrow.Author.Rules.{rules}

@@ -3,8 +3,6 @@ use Prim.Native.Nat.{◌-◌, ◌≤◌}
 use mathlib.Core.Path.{◌≡◌}
 use lib.ListN.{length}
 use Rattle.model.specs.Interface.{sgi_sent}
-use Rattle.system.proofs.Sgis.{sent-more, sent-all}
-use borrow.Author.Rules.{rules}
 use Rattle.system.proofs.sgi.send.Given as goal
 
 abbrev pub invariant-loop-t : goal.invariant-loop-t
