@@ -1,11 +1,10 @@
 -- Save counts and writes the record part by part: what is left gives, with what is done, the whole.
 use Prim.Native.Nat.{ℕ, zero, suc, ◌+◌, ◌*◌, ◌-◌, ◌^◌, ◌≤◌, ◌<◌}
 use mathlib.Core.Path.{◌≡◌, refl, sym, ap, ap₂, ◌∙◌}
-use mathlib.Core.Bool.{Bool, true, false}
+use mathlib.Core.Bool.{Bool, true}
 use mathlib.Core.List.{List, [], ◌∷◌, ◌++◌, append_assoc}
 use native.Mathlib.Omega.{arith}
 use native.Mathlib.Nat.{zero-add, add-suc, add-zero}
-use native.Mathlib.Numerals.{add-one}
 use borrow.Author.Tests.{le-leb}
 use mir.Syntax.{w64}
 use mir.Val.{Fits}
@@ -13,7 +12,7 @@ use lib.Dec.{leb}
 use lib.ListN.{length, get_or, take, drop, length-append, drop_of_length-le}
 use lib.Seq.{sets, length-sets, drop-cons}
 use Rattle.model.specs.Words.{each}
-use Rattle.model.specs.Layout.{state_length, word, count, vcpus}
+use Rattle.model.specs.Layout.{state_length, word}
 use Rattle.model.specs.Record.{encode, record_of}
 use Rattle.model.specs.Demands.{Stopped}
 use Rattle.model.proofs.Numbers.{encode-short}

@@ -19,7 +19,7 @@ use Rattle.model.proofs.Numbers.{read_small, read-big, read_none, encode-small, 
 use Rattle.record.specs.declared.number.Begun.{Begun}
 use Rattle.record.specs.declared.number.Number.{Number}
 use Rattle.record.specs.declared.number.Number.TheVariants.{Value, Cut, Broken}
-use Rattle.record.specs.Numbers.{value, cut, ill, last_unit, last_group, read_on, onward, whole, told, Begins, Resumes, Ends}
+use Rattle.record.specs.Numbers.{value, ill, last_unit, last_group, read_on, onward, whole, told, Begins, Resumes, Ends}
 use Rattle.record.proofs.Bytes.{drop-next}
 
 -- ---- a number by its first byte: the last group, one too many, or one with more after it

@@ -1,16 +1,16 @@
 -- A record walked value by value: what is left to load, or to make fresh, gives what the whole gives.
-use Prim.Native.Nat.{ℕ, ◌+◌, ◌-◌, ◌≤◌, ◌<◌}
-use mathlib.Core.Path.{◌≡◌, refl, sym, ap, ◌∙◌}
+use Prim.Native.Nat.{ℕ, ◌+◌, ◌≤◌, ◌<◌}
+use mathlib.Core.Path.{◌≡◌, refl, sym, ◌∙◌}
 use mathlib.Core.Bool.{Bool, true, false, not, cond}
-use mathlib.Core.List.{List, [], ◌∷◌, ◌++◌}
+use mathlib.Core.List.{List, []}
 use native.Mathlib.Omega.{arith}
 use borrow.Author.Tests.{not-true, not-false, lt-ltb, le-ltb}
 use lib.ListN.{length, get_or, set, drop, length-set, get_or-eq_default}
 use Rattle.model.specs.declared.Errno.{Errno}
 use Rattle.model.specs.declared.Errno.TheVariants.{Einval, Ebadmsg}
 use Rattle.model.specs.declared.Refusal.TheVariants.{None, Refuse}
-use Rattle.record.specs.Numbers.{Reading, value, cut, ill, read_on, told, Resumes}
-use Rattle.record.specs.Table.{Slot, slot, blank, left_at, parts, slots, takes, hidden, least_of, fixed, slot_put, slot_clear}
+use Rattle.record.specs.Numbers.{read_on, told, Resumes}
+use Rattle.record.specs.Table.{Slot, slot, blank, left_at, takes, hidden, least_of, fixed, slot_put, slot_clear}
 use Rattle.record.specs.Walked.{judged, judging, keeping, kept, cleared, tells, leaves, Resumed, Loads, Clears, unread_at, end_of}
 use Rattle.record.specs.declared.number.Begun.{Begun}
 use Rattle.record.specs.declared.number.Cursor.{Cursor}
@@ -21,7 +21,7 @@ use Rattle.record.specs.declared.restore.Walk.TheVariants.{Past, Short, Fault}
 use Rattle.record.specs.declared.table.Kind.{Kind}
 use Rattle.record.specs.declared.table.Part.{Part}
 use Rattle.record.specs.declared.table.Place.{Place}
-use Rattle.record.proofs.Walking.{left-all, left-turn, left-part, left_end}
+use Rattle.record.proofs.Walking.{left-turn, left-part, left_end}
 
 -- past the last part nothing is left
 left_over : (ps : List Part) (k j : ℕ) → length ps ≤ k → left_at ps k j ≡ []

@@ -1,8 +1,5 @@
 -- `record::number::read_on` meets its contract: what is left to read, after the groups up to i, gives the number that was to be read.
-use Prim.Native.Nat.{◌-◌}
-use lib.ListN.{length}
-use Rattle.record.proofs.Groups.{Rest, ends-resumes, rest-first, rest-resumes, rest-cut, rest-ends, rest_over, group-fits, sum_fits, unit-fits, rest-next}
-use borrow.Author.Rules.{rules}
+use Rattle.record.proofs.Groups.{ends-resumes, rest-first, rest-resumes, rest-cut, rest-ends, rest_over, group-fits, sum_fits, unit-fits, rest-next}
 use Rattle.record.proofs.number.read_on.Goals as goal
 
 pub loop-i-init : goal.loop-i-init

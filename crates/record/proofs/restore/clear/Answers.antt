@@ -1,10 +1,6 @@
 -- `record::restore::clear` meets its contract.
-use Prim.Native.Nat.{◌-◌}
-use Rattle.record.specs.Table.{parts}
-use Rattle.record.specs.Walked.{Clears}
 use Rattle.record.proofs.Walking.{left-all}
 use Rattle.record.proofs.Walks.{clears-first, clears-then, clears-all}
-use borrow.Author.Rules.{rules}
 use Rattle.record.proofs.restore.clear.Goals as goal
 
 pub loop-k-init : goal.loop-k-init

@@ -2,9 +2,6 @@
 use Prim.Native.Nat.{◌-◌}
 use Rattle.record.specs.Table.{parts}
 use Rattle.record.specs.Walked.{Clears}
-use Rattle.record.proofs.Walking.{left-all}
-use Rattle.record.proofs.Walks.{clears-first, clears-then, clears-all}
-use borrow.Author.Rules.{rules}
 use Rattle.record.proofs.restore.clear.Given as goal
 
 abbrev pub invariant-loop-k : goal.invariant-loop-k

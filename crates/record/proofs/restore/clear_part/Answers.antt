@@ -1,7 +1,5 @@
 -- `record::restore::clear_part` meets its contract.
-use Prim.Native.Nat.{◌-◌}
-use Rattle.record.proofs.Walks.{Clearing, clearing-first, clearing-next, clearing-end}
-use borrow.Author.Rules.{rules}
+use Rattle.record.proofs.Walks.{clearing-first, clearing-next, clearing-end}
 use Rattle.record.proofs.restore.clear_part.Goals as goal
 
 pub loop-j-init : goal.loop-j-init

@@ -1,6 +1,5 @@
 -- `record::restore::clear_value` meets its contract.
 use Rattle.record.proofs.Walks.{clear-stored, clear-fixed}
-use borrow.Author.Rules.{rules}
 use Rattle.record.proofs.restore.clear_value.Goals as goal
 
 pub returns-then-not-is_fixed : goal.returns-then-not-is_fixed

@@ -1,7 +1,6 @@
 -- `record::restore::device_refusal` meets its contract.
 use Rattle.record.specs.Walked.{device_checks}
 use Rattle.state.proofs.Admitted.{inside, refusing}
-use borrow.Author.Rules.{rules}
 use Rattle.record.proofs.restore.device_refusal.Goals as goal
 
 pub returns-then-not-is_sound : goal.returns-then-not-is_sound

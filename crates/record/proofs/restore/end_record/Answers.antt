@@ -1,6 +1,5 @@
 -- `record::restore::end_record` meets its contract.
 use Rattle.record.proofs.Walks.{end_more, end_none, end_short, end-fault}
-use borrow.Author.Rules.{rules}
 use Rattle.record.proofs.restore.end_record.Goals as goal
 
 pub returns-then-end-bytes : goal.returns-then-end-bytes

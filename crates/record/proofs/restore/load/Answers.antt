@@ -1,8 +1,5 @@
 -- `record::restore::load` meets its contract.
-use Prim.Native.Nat.{◌-◌}
-use Rattle.record.specs.Table.{parts}
-use Rattle.record.proofs.Walks.{Loaded, loaded-first, loaded-next, loaded-stops, loaded-end}
-use borrow.Author.Rules.{rules}
+use Rattle.record.proofs.Walks.{loaded-first, loaded-next, loaded-stops, loaded-end}
 use Rattle.record.proofs.restore.load.Goals as goal
 
 pub loop-place-init : goal.loop-place-init

@@ -1,8 +1,7 @@
 -- `record::restore::load` meets its contract.
 use Prim.Native.Nat.{◌-◌}
 use Rattle.record.specs.Table.{parts}
-use Rattle.record.proofs.Walks.{Loaded, loaded-first, loaded-next, loaded-stops, loaded-end}
-use borrow.Author.Rules.{rules}
+use Rattle.record.proofs.Walks.{Loaded}
 use Rattle.record.proofs.restore.load.Given as goal
 
 abbrev pub invariant-loop-place : goal.invariant-loop-place

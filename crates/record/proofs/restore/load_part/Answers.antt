@@ -1,6 +1,5 @@
 -- `record::restore::load_part` meets its contract.
-use Prim.Native.Nat.{◌-◌}
-use Rattle.record.proofs.Walks.{Loading, loading-first, loading-next, loading-fault, loading-unread, loading-end}
+use Rattle.record.proofs.Walks.{loading-first, loading-next, loading-fault, loading-unread, loading-end}
 use borrow.Author.Rules.{rules}
 use Rattle.record.proofs.restore.load_part.Goals as goal
 

@@ -1,7 +1,6 @@
 -- `record::restore::load_part` meets its contract.
 use Prim.Native.Nat.{◌-◌}
-use Rattle.record.proofs.Walks.{Loading, loading-first, loading-next, loading-fault, loading-unread, loading-end}
-use borrow.Author.Rules.{rules}
+use Rattle.record.proofs.Walks.{Loading}
 use Rattle.record.proofs.restore.load_part.Given as goal
 
 abbrev pub invariant-loop-j : goal.invariant-loop-j

@@ -1,6 +1,5 @@
 -- `record::restore::restore_device` meets its contract.
 use Rattle.record.proofs.Settled.{device-refused, asks-fresh, record-refused, restore-done}
-use borrow.Author.Rules.{rules}
 use Rattle.record.proofs.restore.restore_device.Goals as goal
 
 pub returns-in-Refuse : goal.returns-in-Refuse

@@ -1,6 +1,5 @@
 -- `record::restore::store_value` meets its contract.
 use Rattle.record.proofs.Walks.{put-stored, put-fixed}
-use borrow.Author.Rules.{rules}
 use Rattle.record.proofs.restore.store_value.Goals as goal
 
 pub returns-then-not-is_fixed : goal.returns-then-not-is_fixed

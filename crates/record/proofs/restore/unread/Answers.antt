@@ -1,6 +1,5 @@
 -- `record::restore::unread` meets its contract.
 use Rattle.record.proofs.Walks.{unread-value, unread-cut, unread-broken}
-use borrow.Author.Rules.{rules}
 use Rattle.record.proofs.restore.unread.Goals as goal
 
 pub returns-in-Value : goal.returns-in-Value

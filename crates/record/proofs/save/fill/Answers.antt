@@ -4,7 +4,6 @@ use mathlib.Core.Bool.{not}
 use native.Mathlib.Omega.{arith}
 use Rattle.state.proofs.Admitted.{inside}
 use Rattle.record.proofs.Settled.{fill-unsound, fill-busy, asks-stopped, fill-short, fill-room, fill-within, fill_done}
-use borrow.Author.Rules.{rules}
 use Rattle.record.proofs.save.fill.Goals as goal
 
 pub returns-then-not-is_sound : goal.returns-then-not-is_sound

@@ -1,9 +1,5 @@
 -- `record::save::record_length` meets its contract.
-use Prim.Native.Nat.{◌-◌}
-use Rattle.model.specs.Record.{record_of}
-use Rattle.record.specs.Table.{slot_bytes, left_at, parts}
-use Rattle.record.proofs.Filling.{Counting, record-uncounted, record-fits, parts-counting, record-counted}
-use borrow.Author.Rules.{rules}
+use Rattle.record.proofs.Filling.{record-uncounted, record-fits, parts-counting, record-counted}
 use Rattle.record.proofs.save.record_length.Goals as goal
 
 pub loop-k-init : goal.loop-k-init

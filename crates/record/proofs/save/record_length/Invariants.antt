@@ -2,8 +2,7 @@
 use Prim.Native.Nat.{◌-◌}
 use Rattle.model.specs.Record.{record_of}
 use Rattle.record.specs.Table.{slot_bytes, left_at, parts}
-use Rattle.record.proofs.Filling.{Counting, record-uncounted, record-fits, parts-counting, record-counted}
-use borrow.Author.Rules.{rules}
+use Rattle.record.proofs.Filling.{Counting}
 use Rattle.record.proofs.save.record_length.Given as goal
 
 abbrev pub invariant-loop-k : goal.invariant-loop-k

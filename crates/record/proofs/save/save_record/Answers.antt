@@ -1,8 +1,5 @@
 -- `record::save::save_record` meets its contract.
-use Prim.Native.Nat.{◌-◌}
-use Rattle.model.specs.Record.{record_of}
-use Rattle.record.specs.Table.{slot_bytes, left_at, parts}
-use Rattle.record.proofs.Filling.{Writing, record-unwritten, part_room, part-written, record-written, written-most}
+use Rattle.record.proofs.Filling.{record-unwritten, part_room, part-written, record-written, written-most}
 use borrow.Author.Rules.{rules}
 use Rattle.record.proofs.save.save_record.Goals as goal
 

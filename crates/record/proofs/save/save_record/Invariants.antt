@@ -2,8 +2,7 @@
 use Prim.Native.Nat.{◌-◌}
 use Rattle.model.specs.Record.{record_of}
 use Rattle.record.specs.Table.{slot_bytes, left_at, parts}
-use Rattle.record.proofs.Filling.{Writing, record-unwritten, part_room, part-written, record-written, written-most}
-use borrow.Author.Rules.{rules}
+use Rattle.record.proofs.Filling.{Writing}
 use Rattle.record.proofs.save.save_record.Given as goal
 
 abbrev pub invariant-loop-k : goal.invariant-loop-k

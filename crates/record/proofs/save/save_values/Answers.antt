@@ -1,8 +1,5 @@
 -- `record::save::save_values` meets its contract.
-use Prim.Native.Nat.{◌-◌}
-use lib.ListN.{drop}
-use Rattle.record.specs.Table.{slot_bytes, slots_in}
-use Rattle.record.proofs.Filling.{Writing, writing-none, value-small, value_room, value_written, values-written}
+use Rattle.record.proofs.Filling.{writing-none, value-small, value_room, value_written, values-written}
 use borrow.Author.Rules.{rules}
 use Rattle.record.proofs.save.save_values.Goals as goal
 

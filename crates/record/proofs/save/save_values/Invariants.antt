@@ -2,8 +2,7 @@
 use Prim.Native.Nat.{◌-◌}
 use lib.ListN.{drop}
 use Rattle.record.specs.Table.{slot_bytes, slots_in}
-use Rattle.record.proofs.Filling.{Writing, writing-none, value-small, value_room, value_written, values-written}
-use borrow.Author.Rules.{rules}
+use Rattle.record.proofs.Filling.{Writing}
 use Rattle.record.proofs.save.save_values.Given as goal
 
 abbrev pub invariant-loop-j : goal.invariant-loop-j

@@ -1,9 +1,5 @@
 -- `record::save::save_words` meets its contract.
-use Prim.Native.Nat.{◌-◌}
-use lib.ListN.{length, drop}
-use Rattle.record.specs.Written.{words_bytes}
-use Rattle.record.proofs.Filling.{Writing, writing-none, word_room, word-written, words-written}
-use borrow.Author.Rules.{rules}
+use Rattle.record.proofs.Filling.{writing-none, word_room, word-written, words-written}
 use Rattle.record.proofs.save.save_words.Goals as goal
 
 pub loop-i-init : goal.loop-i-init

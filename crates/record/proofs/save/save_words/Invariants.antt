@@ -2,8 +2,7 @@
 use Prim.Native.Nat.{◌-◌}
 use lib.ListN.{length, drop}
 use Rattle.record.specs.Written.{words_bytes}
-use Rattle.record.proofs.Filling.{Writing, writing-none, word_room, word-written, words-written}
-use borrow.Author.Rules.{rules}
+use Rattle.record.proofs.Filling.{Writing}
 use Rattle.record.proofs.save.save_words.Given as goal
 
 abbrev pub invariant-loop-i : goal.invariant-loop-i

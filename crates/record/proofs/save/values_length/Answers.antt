@@ -1,8 +1,5 @@
 -- `record::save::values_length` meets its contract.
-use Prim.Native.Nat.{◌-◌}
-use lib.ListN.{drop}
-use Rattle.record.specs.Table.{slot_bytes, slots_in}
-use Rattle.record.proofs.Filling.{Counting, counting-none, value-small, values-fit, values-counting, values-counted}
+use Rattle.record.proofs.Filling.{counting-none, value-small, values-fit, values-counting, values-counted}
 use borrow.Author.Rules.{rules}
 use Rattle.record.proofs.save.values_length.Goals as goal
 

@@ -2,8 +2,7 @@
 use Prim.Native.Nat.{◌-◌}
 use lib.ListN.{drop}
 use Rattle.record.specs.Table.{slot_bytes, slots_in}
-use Rattle.record.proofs.Filling.{Counting, counting-none, value-small, values-fit, values-counting, values-counted}
-use borrow.Author.Rules.{rules}
+use Rattle.record.proofs.Filling.{Counting}
 use Rattle.record.proofs.save.values_length.Given as goal
 
 abbrev pub invariant-loop-j : goal.invariant-loop-j

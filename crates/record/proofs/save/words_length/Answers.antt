@@ -1,9 +1,5 @@
 -- `record::save::words_length` meets its contract.
-use Prim.Native.Nat.{◌-◌}
-use lib.ListN.{length, drop}
-use Rattle.record.specs.Written.{words_bytes}
-use Rattle.record.proofs.Filling.{Counting, counting-none, words-fit, words-counting, words-counted}
-use borrow.Author.Rules.{rules}
+use Rattle.record.proofs.Filling.{counting-none, words-fit, words-counting, words-counted}
 use Rattle.record.proofs.save.words_length.Goals as goal
 
 pub loop-i-init : goal.loop-i-init

@@ -2,8 +2,7 @@
 use Prim.Native.Nat.{◌-◌}
 use lib.ListN.{length, drop}
 use Rattle.record.specs.Written.{words_bytes}
-use Rattle.record.proofs.Filling.{Counting, counting-none, words-fit, words-counting, words-counted}
-use borrow.Author.Rules.{rules}
+use Rattle.record.proofs.Filling.{Counting}
 use Rattle.record.proofs.save.words_length.Given as goal
 
 abbrev pub invariant-loop-i : goal.invariant-loop-i

@@ -3,7 +3,6 @@ use mathlib.Core.Path.{refl}
 use native.Mathlib.Omega.{arith}
 use Rattle.model.specs.Sound.{bank_bits}
 use Rattle.record.proofs.Choices.{in-run, past_end}
-use borrow.Author.Rules.{rules}
 use Rattle.record.proofs.table.bank_bits.Goals as goal
 
 pub returns-in-0 : goal.returns-in-0

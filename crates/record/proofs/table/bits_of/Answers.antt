@@ -1,5 +1,4 @@
 -- `record::table::bits_of` meets its contract.
-use borrow.Author.Rules.{rules}
 use Rattle.record.specs.Table.{field_bits}
 use Rattle.record.proofs.table.bits_of.Goals as goal
 

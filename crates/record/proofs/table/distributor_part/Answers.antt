@@ -1,5 +1,4 @@
 -- `record::table::distributor_part` meets its contract.
-use borrow.Author.Rules.{rules}
 use native.Mathlib.Omega.{arith}
 use Rattle.record.proofs.Choices.{as_row, last_arm}
 use Rattle.record.proofs.table.distributor_part.Goals as goal

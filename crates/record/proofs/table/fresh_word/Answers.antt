@@ -1,5 +1,4 @@
 -- `record::table::fresh_word` meets its contract.
-use borrow.Author.Rules.{rules}
 use Rattle.record.specs.Table.{least_of}
 use Rattle.record.proofs.Choices.{least_zero}
 use Rattle.record.proofs.table.fresh_word.Goals as goal

@@ -1,6 +1,5 @@
 -- `record::table::header_part` meets its contract.
 use borrow.Author.Tests.{ne_eqb}
-use borrow.Author.Rules.{rules}
 use native.Mathlib.Omega.{arith}
 use Rattle.record.specs.Table.{affinity_part}
 use Rattle.record.proofs.Choices.{as_row}

@@ -1,5 +1,4 @@
 -- `record::table::is_fixed` meets its contract.
-use borrow.Author.Rules.{rules}
 use Rattle.record.specs.Table.{fixed}
 use Rattle.record.proofs.Choices.{not-fixed}
 use Rattle.record.proofs.table.is_fixed.Goals as goal

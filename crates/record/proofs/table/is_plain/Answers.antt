@@ -1,5 +1,4 @@
 -- `record::table::is_plain` meets its contract.
-use borrow.Author.Rules.{rules}
 use Rattle.record.specs.Table.{plain}
 use Rattle.record.proofs.Choices.{not_plain}
 use Rattle.record.proofs.table.is_plain.Goals as goal

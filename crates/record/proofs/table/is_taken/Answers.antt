@@ -1,5 +1,4 @@
 -- `record::table::is_taken` meets its contract.
-use borrow.Author.Rules.{rules}
 use Rattle.record.specs.Table.{takes}
 use Rattle.record.proofs.Choices.{under-base, over-base, in-fields}
 use Rattle.record.proofs.table.is_taken.Goals as goal

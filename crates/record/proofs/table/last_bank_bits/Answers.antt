@@ -3,7 +3,6 @@ use mathlib.Core.Path.{refl}
 use native.Mathlib.Omega.{arith}
 use Rattle.model.specs.Sound.{last_bank_bits}
 use Rattle.record.proofs.Choices.{in-run, past_end}
-use borrow.Author.Rules.{rules}
 use Rattle.record.proofs.table.last_bank_bits.Goals as goal
 
 pub returns-in-0 : goal.returns-in-0

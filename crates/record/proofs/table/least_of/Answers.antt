@@ -1,5 +1,4 @@
 -- `record::table::least_of` meets its contract.
-use borrow.Author.Rules.{rules}
 use Rattle.record.specs.Table.{field_least}
 use Rattle.record.proofs.Choices.{least-bpr0, least-bpr1, least_other}
 use Rattle.record.proofs.table.least_of.Goals as goal

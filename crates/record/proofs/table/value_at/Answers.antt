@@ -1,5 +1,4 @@
 -- `record::table::value_at` meets its contract.
-use borrow.Author.Rules.{rules}
 use Rattle.record.specs.Table.{shown}
 use Rattle.record.proofs.Choices.{above-fits}
 use Rattle.record.proofs.table.value_at.Goals as goal

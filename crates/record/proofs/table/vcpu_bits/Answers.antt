@@ -1,5 +1,4 @@
 -- `record::table::vcpu_bits` meets its contract.
-use borrow.Author.Rules.{rules}
 use mathlib.Core.Path.{refl}
 use native.Mathlib.Omega.{arith}
 use Rattle.model.specs.Sound.{block_bits}

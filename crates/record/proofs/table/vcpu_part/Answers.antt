@@ -1,5 +1,4 @@
 -- `record::table::vcpu_part` meets its contract.
-use borrow.Author.Rules.{rules}
 use native.Mathlib.Omega.{arith}
 use Rattle.record.specs.Table.{vcpu_parts}
 use Rattle.record.proofs.Choices.{as_row, last_arm}

@@ -1,5 +1,4 @@
 -- `record::table::word_shown` meets its contract.
-use borrow.Author.Rules.{rules}
 use Rattle.record.specs.Table.{hidden}
 use Rattle.record.proofs.Choices.{hidden-under}
 use Rattle.record.proofs.table.word_shown.Goals as goal
