@@ -1,0 +1,8 @@
+-- `words::without_lowest` meets its contract.
+use borrow.Author.Rules.{rules}
+use Rattle.words.proofs.Over.{lower, lower-lt, lower-rest}
+use Rattle.words.proofs.without_lowest.Goals as goal
+
+pub returns : goal.returns
+unfolding lower
+returns c = (lower-rest c.args.m c.requires c.ranges.m.fits, lower-lt c.args.m c.requires)
