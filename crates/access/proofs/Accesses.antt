@@ -5,9 +5,6 @@ use mathlib.Core.Bool.{Bool, true, false, cond, ◌&&◌, true≢false}
 use mathlib.Core.List.{List, [], ◌∷◌}
 use native.Mathlib.Omega.{arith}
 use borrow.Author.Tests.{ltb-true}
-use types.Run.{OneOf, miss}
-use denote.Enum.Declared.{tag_of}
-use Rattle.model.specs.contracts.Register.{the_type}
 use lib.Dec.{eqb}
 use mir.Syntax.{w64}
 use mir.Val.{Fits}
@@ -38,7 +35,7 @@ use Rattle.registers.specs.declared.priorities.Bytes.TheVariants.{One}
 
 -- ---- IPRIORITYR alone takes one byte
 
-pub by_word : (r : Register) → OneOf (0 ∷ 1 ∷ 2 ∷ 3 ∷ 4 ∷ 5 ∷ 7 ∷ 8 ∷ 9 ∷ 10 ∷ []) (tag_of the_type r) → false ≡ by_byte r
+pub by_word : (r : Register) → (r ≡ Priority → ⊥) → false ≡ by_byte r
 unfolding by_byte
 by_word (Fixed c) h = refl
 by_word Control h = refl
@@ -46,7 +43,7 @@ by_word Typer h = refl
 by_word Iidr h = refl
 by_word Status h = refl
 by_word (Bits f) h = refl
-by_word Priority h = absurd (miss (0 ∷ 1 ∷ 2 ∷ 3 ∷ 4 ∷ 5 ∷ 7 ∷ 8 ∷ 9 ∷ 10 ∷ []) 6 tt h)
+by_word Priority h = absurd (h refl)
 by_word Config h = refl
 by_word Route h = refl
 by_word FrameTyper h = refl

@@ -5,8 +5,6 @@ use mathlib.Core.Bool.{Bool, true, false, ◌&&◌}
 use mathlib.Core.List.{List, [], ◌∷◌}
 use native.Mathlib.Omega.{arith}
 use borrow.Author.Tests.{ltb-true, le-leb, lt-leb}
-use types.Run.{OneOf, miss}
-use denote.Enum.Declared.{tag_of}
 use lib.Dec.{ltb}
 use lib.ListN.{length}
 use mir.Syntax.{w32}
@@ -25,8 +23,6 @@ use Rattle.model.specs.declared.Plain.{Plain}
 use Rattle.model.specs.declared.Plain.TheVariants.{Pmr, Bpr, Apr, Ctlr, Sre, Igrpen}
 use Rattle.model.specs.declared.Item.{Item}
 use Rattle.model.specs.declared.Item.TheVariants.{Mapped, System, Nameless}
-use Rattle.model.specs.contracts.Register as register
-use Rattle.model.specs.contracts.Plain as plain
 use Rattle.model.proofs.Tests.{both}
 use Rattle.model.proofs.Within.{fits_le}
 use Rattle.priority.specs.Asked.{Usable}
@@ -34,12 +30,12 @@ use Rattle.attributes.specs.Names.{Within}
 
 -- ---- an IIDR takes its own value only
 
-pub takes-any : (r : Register) (x : ℕ) → OneOf (0 ∷ 1 ∷ 2 ∷ 4 ∷ 5 ∷ 6 ∷ 7 ∷ 8 ∷ 9 ∷ 10 ∷ []) (tag_of register.the_type r) → true ≡ register_takes r x
+pub takes-any : (r : Register) (x : ℕ) → (r ≡ Iidr → ⊥) → true ≡ register_takes r x
 unfolding register_takes
 takes-any (Fixed c) x h = refl
 takes-any Control x h = refl
 takes-any Typer x h = refl
-takes-any Iidr x h = absurd (miss (0 ∷ 1 ∷ 2 ∷ 4 ∷ 5 ∷ 6 ∷ 7 ∷ 8 ∷ 9 ∷ 10 ∷ []) 3 tt h)
+takes-any Iidr x h = absurd (h refl)
 takes-any Status x h = refl
 takes-any (Bits f) x h = refl
 takes-any Priority x h = refl
@@ -49,14 +45,14 @@ takes-any FrameTyper x h = refl
 takes-any FrameAffinity x h = refl
 
 -- nor do CTLR and SRE take any value, of the plain registers
-pub plain-any : (p : Plain) (x : ℕ) → OneOf (0 ∷ 1 ∷ 2 ∷ 5 ∷ []) (tag_of plain.the_type p) → true ≡ plain_takes p x
+pub plain-any : (p : Plain) (x : ℕ) → (p ≡ Ctlr → ⊥) → (p ≡ Sre → ⊥) → true ≡ plain_takes p x
 unfolding plain_takes
-plain-any Pmr x h = refl
-plain-any (Bpr g) x h = refl
-plain-any (Apr g) x h = refl
-plain-any Ctlr x h = absurd (miss (0 ∷ 1 ∷ 2 ∷ 5 ∷ []) 3 tt h)
-plain-any Sre x h = absurd (miss (0 ∷ 1 ∷ 2 ∷ 5 ∷ []) 4 tt h)
-plain-any (Igrpen g) x h = refl
+plain-any Pmr x h k = refl
+plain-any (Bpr g) x h k = refl
+plain-any (Apr g) x h k = refl
+plain-any Ctlr x h k = absurd (h refl)
+plain-any Sre x h k = absurd (k refl)
+plain-any (Igrpen g) x h k = refl
 
 -- ---- by what is named
 

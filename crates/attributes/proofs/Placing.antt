@@ -5,8 +5,6 @@ use mathlib.Core.Bool.{Bool, true, false, cond, true≢false}
 use mathlib.Core.List.{List, [], ◌∷◌}
 use native.Mathlib.Omega.{arith}
 use borrow.Author.Tests.{lt-ltb, le-ltb, ltb-true, eq-eqb, ne_eqb, eqb-true}
-use types.Run.{OneOf, miss}
-use denote.Enum.Declared.{tag_of}
 use lib.Dec.{eqb, ltb}
 use Rattle.model.specs.Layout.{most_vcpus, vcpus, is_initialised}
 use Rattle.model.specs.Sound.{sound}
@@ -26,7 +24,6 @@ use Rattle.model.specs.declared.SystemRegister.TheVariants.{Both, Read, Write, U
 use Rattle.model.specs.declared.Item.TheVariants.{Mapped, System, Nameless}
 use Rattle.model.specs.declared.RegisterGroup.{RegisterGroup}
 use Rattle.model.specs.declared.RegisterGroup.TheVariants.{Distributor, Redistributor, Interface, Lines}
-use Rattle.model.specs.contracts.SystemRegister.{the_type}
 use Rattle.model.proofs.Tests.{both}
 use Rattle.model.proofs.Decode.{decode-words, system-group}
 use Rattle.model.proofs.Soundness.{sound-vcpus}
@@ -98,11 +95,11 @@ module _ (x : View) (n : ℕ) (r : SystemRegister) (e : r ≡ system n) where
   unfolding system_item
   plain-named p q = rw (← e, q)
 
-  pub not_plain : OneOf (1 ∷ 2 ∷ 3 ∷ []) (tag_of the_type r) → Nameless ≡ system_item x (system n)
+  pub not_plain : ((p : Plain) → r ≡ Both p → ⊥) → Nameless ≡ system_item x (system n)
   not_plain o = rw (← e) (go r o)
     where
-      go : (r : SystemRegister) → OneOf (1 ∷ 2 ∷ 3 ∷ []) (tag_of the_type r) → Nameless ≡ system_item x r
-      go (Both p) o = absurd (miss (1 ∷ 2 ∷ 3 ∷ []) 0 tt o)
+      go : (r : SystemRegister) → ((p : Plain) → r ≡ Both p → ⊥) → Nameless ≡ system_item x r
+      go (Both p) o = absurd (o p refl)
       go (Read q) o = unfold system_item in refl
       go (Write w) o = unfold system_item in refl
       go Unnamed o = unfold system_item in refl

@@ -7,8 +7,6 @@ use native.Mathlib.Omega.{arith}
 use borrow.Author.Tests.{eq-eqb, ne_eqb, lt-ltb, le-ltb, le-leb, lt-leb}
 use lib.Dec.{leb, lit<}
 use lib.ListN.{length, get_or, take, drop, replicate, length-replicate, get_or-replicate, get_or-eq_default}
-use denote.Enum.Declared.{tag_of}
-use types.Run.{OneOf, miss}
 use mir.Syntax.{w32, w64}
 use mir.Val.{Fits}
 use Rattle.model.specs.Values.{route_bits}
@@ -23,7 +21,6 @@ use Rattle.record.specs.declared.table.Block.TheVariants.{Vcpu, Bank, LastBank}
 use Rattle.record.specs.declared.table.Kind.{Kind}
 use Rattle.record.specs.declared.table.Kind.TheVariants.{Exactly, SetUp, Within, Fields, Above, Edges}
 use Rattle.record.specs.declared.table.Part.{Part}
-use Rattle.record.specs.contracts.table.Kind.{the_type}
 use Rattle.record.proofs.Lists.{past, before}
 use Rattle.record.proofs.Order.{length-parts, length-slots}
 
@@ -88,32 +85,32 @@ unfolding shown
 above-fits k b m v w e q h = record { fits = rw q (rw e at h) }
 
 -- the kinds that a `match` does not name
-pub least_zero : (k : Kind) (f : ℕ) → OneOf (0 ∷ 1 ∷ 2 ∷ 4 ∷ 5 ∷ []) (tag_of the_type k) → 0 ≡ least_of k f
+pub least_zero : (k : Kind) (f : ℕ) → ((b : Block) → k ≡ Fields b → ⊥) → 0 ≡ least_of k f
 unfolding least_of
 least_zero (Exactly n) f o = refl
 least_zero SetUp f o = refl
 least_zero (Within m) f o = refl
-least_zero (Fields b) f o = absurd (miss (0 ∷ 1 ∷ 2 ∷ 4 ∷ 5 ∷ []) 3 tt o)
+least_zero (Fields b) f o = absurd (o b refl)
 least_zero (Above a m) f o = refl
 least_zero (Edges b) f o = refl
 
-pub not-fixed : (k : Kind) → OneOf (2 ∷ 3 ∷ 4 ∷ 5 ∷ []) (tag_of the_type k) → false ≡ fixed k
+pub not-fixed : (k : Kind) → ((n : ℕ) → k ≡ Exactly n → ⊥) → (k ≡ SetUp → ⊥) → false ≡ fixed k
 unfolding fixed
-not-fixed (Exactly n) o = absurd (miss (2 ∷ 3 ∷ 4 ∷ 5 ∷ []) 0 tt o)
-not-fixed SetUp o = absurd (miss (2 ∷ 3 ∷ 4 ∷ 5 ∷ []) 1 tt o)
-not-fixed (Within m) o = refl
-not-fixed (Fields b) o = refl
-not-fixed (Above a m) o = refl
-not-fixed (Edges b) o = refl
+not-fixed (Exactly n) e u = absurd (e n refl)
+not-fixed SetUp e u = absurd (u refl)
+not-fixed (Within m) e u = refl
+not-fixed (Fields b) e u = refl
+not-fixed (Above a m) e u = refl
+not-fixed (Edges b) e u = refl
 
-pub not_plain : (k : Kind) → OneOf (0 ∷ 4 ∷ 5 ∷ []) (tag_of the_type k) → false ≡ plain k
+pub not_plain : (k : Kind) → (k ≡ SetUp → ⊥) → ((m : ℕ) → k ≡ Within m → ⊥) → ((b : Block) → k ≡ Fields b → ⊥) → false ≡ plain k
 unfolding plain
-not_plain (Exactly n) o = refl
-not_plain SetUp o = absurd (miss (0 ∷ 4 ∷ 5 ∷ []) 1 tt o)
-not_plain (Within m) o = absurd (miss (0 ∷ 4 ∷ 5 ∷ []) 2 tt o)
-not_plain (Fields b) o = absurd (miss (0 ∷ 4 ∷ 5 ∷ []) 3 tt o)
-not_plain (Above a m) o = refl
-not_plain (Edges b) o = refl
+not_plain (Exactly n) u w f = refl
+not_plain SetUp u w f = absurd (u refl)
+not_plain (Within m) u w f = absurd (w m refl)
+not_plain (Fields b) u w f = absurd (f b refl)
+not_plain (Above a m) u w f = refl
+not_plain (Edges b) u w f = refl
 
 -- ---- a row of the table
 

@@ -2,12 +2,9 @@
 use Prim.Native.Nat.{ℕ, ◌+◌, ◌-◌, ◌≤◌, ◌<◌}
 use mathlib.Core.Path.{◌≡◌, refl, sym, ap, ◌∙◌}
 use mathlib.Core.Bool.{Bool, true, false, not, cond}
-use mathlib.Core.Logic.{◌⊎◌, ⊎_elim}
 use mathlib.Core.List.{List, [], ◌∷◌, ◌++◌}
 use native.Mathlib.Omega.{arith}
 use borrow.Author.Tests.{not-true, not-false, lt-ltb, le-ltb}
-use types.Run.{OneOf}
-use denote.Enum.Declared.{tag_of}
 use lib.ListN.{length, get_or, set, drop, length-set, get_or-eq_default}
 use Rattle.model.specs.declared.Errno.{Errno}
 use Rattle.model.specs.declared.Errno.TheVariants.{Einval, Ebadmsg}
@@ -24,8 +21,6 @@ use Rattle.record.specs.declared.restore.Walk.TheVariants.{Past, Short, Fault}
 use Rattle.record.specs.declared.table.Kind.{Kind}
 use Rattle.record.specs.declared.table.Part.{Part}
 use Rattle.record.specs.declared.table.Place.{Place}
-use Rattle.record.specs.contracts.number.Number as number
-use Rattle.record.specs.contracts.restore.Walk as walk
 use Rattle.record.proofs.Walking.{left-all, left-turn, left-part, left_end}
 
 -- past the last part nothing is left
@@ -115,7 +110,7 @@ module _ (bytes : List ℕ) (p : Part) (at₀ j₀ : ℕ) (s₀ : List ℕ) (c :
         state = rw (← z) (rw (q, ← h, not-true b n) at (keeps ps from.part e));
       }
 
-    pub loading-unread : Resumes r → OneOf (1 ∷ 2 ∷ []) (tag_of number.the_type r) → (ps : List Part) (from : Place) → p ≡ get_or ps from.part blank → j₀ ≡ from.word
+    pub loading-unread : Resumes r → ((v : ℕ) (d : Cursor) → r ≡ Value v d → ⊥) → (ps : List Part) (from : Place) → p ≡ get_or ps from.part blank → j₀ ≡ from.word
         → (a : Walk) → a ≡ unread_at (record { part = from.part; word = j }) r → (k : ℕ) → Loads ps bytes from at₀ k s₀ s a
     unfolding judging keeping told tells leaves unread_at
     loading-unread g o ps from e z a f k = rw f (record { same = w.same; resumes = on r g; come = cases r o (comes ps from.part e); state = leaves_all r o (keeps ps from.part e) })
@@ -125,17 +120,17 @@ module _ (bytes : List ℕ) (p : Part) (at₀ j₀ : ℕ) (s₀ : List ℕ) (c :
         on (Cut b) g = g
         on Broken g = tt
 
-        cases : (r : Number) → OneOf (1 ∷ 2 ∷ []) (tag_of number.the_type r)
+        cases : (r : Number) → ((v : ℕ) (d : Cursor) → r ≡ Value v d → ⊥)
             → judging s x (left_at ps from.part (j + 1)) (told bytes r) (λ v b. judged (left_at ps from.part (j + 1)) b (slot_put s x v)) ≡ judged (left_at ps from.part j₀) (drop at₀ bytes) s₀
             → tells ps bytes k (unread_at (record { part = from.part; word = j }) r) s ≡ judged (left_at ps from.part from.word) (drop at₀ bytes) s₀
-        cases (Value v d) o g = absurd (⊎_elim (λ (x : _). omega arith) (λ (x : _). omega arith) o)
+        cases (Value v d) o g = absurd (o v d refl)
         cases (Cut b) o g = rw (left-turn ps from.part j p e l, ← z) g
         cases Broken o g = rw (← z) g
 
-        leaves_all : (r : Number) → OneOf (1 ∷ 2 ∷ []) (tag_of number.the_type r)
+        leaves_all : (r : Number) → ((v : ℕ) (d : Cursor) → r ≡ Value v d → ⊥)
             → keeping s x (told bytes r) (λ v b. kept (left_at ps from.part (j + 1)) b (slot_put s x v)) ≡ kept (left_at ps from.part j₀) (drop at₀ bytes) s₀
             → leaves ps bytes k (unread_at (record { part = from.part; word = j }) r) s ≡ kept (left_at ps from.part from.word) (drop at₀ bytes) s₀
-        leaves_all (Value v d) o g = absurd (⊎_elim (λ (x : _). omega arith) (λ (x : _). omega arith) o)
+        leaves_all (Value v d) o g = absurd (o v d refl)
         leaves_all (Cut b) o g = rw (← z) g
         leaves_all Broken o g = rw (← z) g
 
@@ -166,16 +161,16 @@ module _ (ps : List Part) (bytes : List ℕ) (from : Place) (at₀ : ℕ) (s₀ 
     loaded-next d q = record { same = m.same ∙ w.same; come = rw q at m.come ∙ w.come; state = rw q at m.state ∙ w.state }
 
     -- the walk ends in the middle
-    pub loaded-stops : OneOf (1 ∷ 2 ∷ []) (tag_of walk.the_type r) → (k : ℕ) → Loads ps bytes from at₀ k s₀ u r
+    pub loaded-stops : ((d : Cursor) → r ≡ Past d → ⊥) → (k : ℕ) → Loads ps bytes from at₀ k s₀ u r
     loaded-stops o k = record { same = m.same ∙ w.same; resumes = m.resumes; come = come-on r o ∙ m.come ∙ w.come; state = state-on r o ∙ m.state ∙ w.state }
       where
-        come-on : (r : Walk) → OneOf (1 ∷ 2 ∷ []) (tag_of walk.the_type r) → tells ps bytes k r u ≡ tells ps bytes (place.part + 1) r u
-        come-on (Past d) o = absurd (⊎_elim (λ (x : _). omega arith) (λ (x : _). omega arith) o)
+        come-on : (r : Walk) → ((d : Cursor) → r ≡ Past d → ⊥) → tells ps bytes k r u ≡ tells ps bytes (place.part + 1) r u
+        come-on (Past d) o = absurd (o d refl)
         come-on (Short p b) o = unfold tells in refl
         come-on (Fault e) o = unfold tells in refl
 
-        state-on : (r : Walk) → OneOf (1 ∷ 2 ∷ []) (tag_of walk.the_type r) → leaves ps bytes k r u ≡ leaves ps bytes (place.part + 1) r u
-        state-on (Past d) o = absurd (⊎_elim (λ (x : _). omega arith) (λ (x : _). omega arith) o)
+        state-on : (r : Walk) → ((d : Cursor) → r ≡ Past d → ⊥) → leaves ps bytes k r u ≡ leaves ps bytes (place.part + 1) r u
+        state-on (Past d) o = absurd (o d refl)
         state-on (Short p b) o = unfold leaves in refl
         state-on (Fault e) o = unfold leaves in refl
 

@@ -1,0 +1,6 @@
+-- `attributes::item::word_takes` meets its contract.
+use borrow.Author.Rules.{rules}
+use Rattle.attributes.proofs.item.word_takes.Goals as goal
+
+pub returns : goal.returns
+returns c = cc

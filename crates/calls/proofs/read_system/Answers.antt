@@ -1,0 +1,7 @@
+-- `calls::read_system` meets its contract.
+use Rattle.calls.proofs.Shape.{public}
+use borrow.Author.Rules.{rules}
+use Rattle.calls.proofs.read_system.Goals as goal
+
+pub returns : goal.returns
+returns c = search public

@@ -1,0 +1,15 @@
+-- `console::parse::read_number` meets its contract.
+use Prim.Native.Nat.{◌-◌, ◌^◌, ◌<◌, ◌≤◌}
+use mathlib.Core.Path.{◌≡◌, refl}
+use borrow.Author.Rules.{rules}
+use lib.Dec.{lit≤}
+use lib.ListN.{length, drop}
+use Rattle.console.specs.Text.{digits_after}
+use Rattle.console.proofs.Hex.{no-number-empty, no-number-long, not-a-digit, all_digits, digit-more, grows, times-fits, plus-fits}
+use Rattle.console.proofs.parse.read_number.Given as goal
+
+abbrev pub invariant-loop-i : goal.invariant-loop-i
+invariant-loop-i l = (l.i ≤ length l.field) × (l.n < 16 ^ l.i) × (digits_after l.n (drop l.i l.field) ≡ digits_after 0 l.field)
+
+abbrev pub decreases-loop-i : goal.decreases-loop-i
+decreases-loop-i l = length l.field - l.i

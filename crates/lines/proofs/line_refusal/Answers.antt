@@ -1,0 +1,22 @@
+-- `lines::line_refusal` meets its contract.
+use Rattle.state.proofs.Admitted.{inside, refusing}
+use borrow.Author.Rules.{rules}
+use Rattle.lines.proofs.line_refusal.Goals as goal
+
+pub returns-then-not-is_sound : goal.returns-then-not-is_sound
+returns-then-not-is_sound c = search refusing depth 12
+
+pub in_phase-requires : goal.in_phase-requires
+in_phase-requires c = (search inside, search inside)
+
+pub returns-then-not-in_phase : goal.returns-then-not-in_phase
+returns-then-not-in_phase c = search refusing depth 12
+
+pub has_line-requires : goal.has_line-requires
+has_line-requires c = search inside
+
+pub returns-then-not-has_line : goal.returns-then-not-has_line
+returns-then-not-has_line c = search refusing depth 12
+
+pub returns : goal.returns
+returns c = search refusing depth 12

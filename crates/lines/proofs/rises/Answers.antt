@@ -1,0 +1,7 @@
+-- `lines::rises` meets its contract.
+use Rattle.lines.specs.Lines.{rises_in}
+use borrow.Author.Rules.{rules}
+use Rattle.lines.proofs.rises.Goals as goal
+
+pub returns : goal.returns
+returns c = unfold rises_in in cc

@@ -1,0 +1,10 @@
+-- `priority::acknowledge::has_level` meets its contract.
+use Rattle.priority.proofs.Offers.{no-level}
+use borrow.Author.Rules.{rules}
+use Rattle.priority.proofs.acknowledge.has_level.Goals as goal
+
+pub returns-then-level-eq32 : goal.returns-then-level-eq32
+returns-then-level-eq32 c = search no-level
+
+pub returns : goal.returns
+returns c = cc
