@@ -23,6 +23,10 @@ use Rattle.console.specs.Sessions.{printed, left, Session, kept, line_ended, byt
 
 -- ---- a line
 
+pub is-bad : (q : Parsed) → ((c : Command) → q ≡ Good c → ⊥) → q ≡ Bad
+is-bad (Good c) h = absurd (h c refl)
+is-bad Bad h = refl
+
 module _ (p q : Parsed) (s : List ℕ) (e : q ≡ p) where
   pub bad-left : q ≡ Bad → s ≡ left p s
   unfolding left

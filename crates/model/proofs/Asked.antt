@@ -9,11 +9,11 @@ use borrow.Author.Tests.{eq-eqb, lt-ltb, le-ltb, le-leb}
 use lib.Dec.{eqb, ltb}
 use lib.IntN.{pos, neg_ℤ}
 use Rattle.model.specs.Words.{lowest}
-use Rattle.model.specs.Layout.{word, vcpus, block, affinity, ctlr_field, ctlr_at}
+use Rattle.model.specs.Layout.{word, vcpus, ctlr_field, ctlr_at}
 use Rattle.model.specs.declared.Refusal.TheVariants.{None}
 use Rattle.model.specs.Interface.{plain_takes}
 use Rattle.model.specs.Attributes.{Attribute, low, high, group_of, index_of, number_ok, affinity_known, item, item_in, item_of, known, register_takes, takes, item_read}
-use Rattle.model.specs.Calls.{Call, get_attribute, call, register_checks, get_checks, refusal, get_value, value, describe}
+use Rattle.model.specs.Calls.{Call, get_attribute, call, register_checks, get_checks, refusal, get_value, describe}
 use Rattle.model.specs.Record.{of_vcpu}
 use Rattle.model.specs.Demands.{Stopped, Alike}
 use Rattle.model.specs.declared.RegisterGroup.{RegisterGroup}
@@ -25,7 +25,6 @@ use Rattle.model.proofs.Refused.{none_of, tests-next, unrefused, IsGranted, is-g
 use Rattle.model.proofs.Listed.{Listed, groups, enables, latches, actives, pmr, ctlr, ap0r, ap1r, igrpen0, igrpen1, encoding_of, control, status, spi-flags, spi-lines, spi-priority, spi-config, spi-route, vcpu-status, vcpu-flags, vcpu-lines, vcpu-priority, vcpu-system, bpr0, bpr1}
 use Rattle.model.proofs.Places.{small-encoding, place_of, shown, shape_of, named_by, index-of, vcpu-parts, names-item}
 use Rattle.model.proofs.Cover.{shows}
-use Rattle.model.proofs.Puts.{ctlr-word}
 use Rattle.model.proofs.Masks.{block-word}
 use Rattle.model.specs.Values.{icc_ctlr_fixed}
 

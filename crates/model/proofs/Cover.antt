@@ -21,7 +21,7 @@ use Rattle.model.proofs.Soundness.{stopped-ready, Ready, stopped-running, open-v
 use Rattle.model.proofs.Bits.{gather-lt}
 use Rattle.model.proofs.Masks.{entry-there, entry_absent, header-bits, block-bits, bank-bits, last-bits, route-none, SpiWord, header-word, block-word, bank-is}
 use Rattle.model.proofs.Listed.{Kept, groups, enables, latches, actives, offset_of, Stored, pmr, ctlr, ap0r, ap1r, igrpen0, igrpen1, encoding_of, Listed, control, status, spi-flags, spi-lines, spi-priority, spi-config, spi-route, vcpu-status, vcpu-flags, vcpu-lines, vcpu-priority, vcpu-system, member, bpr0, bpr1}
-use Rattle.model.proofs.Places.{field_of, stored_at, field-small, stored-small, place_of, Shape, itself, shown, shape_of, room_of, shown-once, named_by, reads-place, edges}
+use Rattle.model.proofs.Places.{field_of, stored_at, field-small, stored-small, place_of, Shape, itself, shown, shape_of, room_of, shown-once, named_by, reads-place}
 use Rattle.model.proofs.Roles.{header-role, listed-bank, listed-block, listed-route}
 use Rattle.model.proofs.Derived.{core-decides}
 use Rattle.model.specs.Roles.{role_in, role_of, is_derived}

@@ -4,7 +4,6 @@ use mathlib.Core.Path.{◌≡◌, refl, sym, ◌∙◌}
 use mathlib.Core.Bool.{true, false}
 use mathlib.Core.List.{List}
 use native.Mathlib.Omega.{arith}
-use lib.ListN.{length}
 use lib.Seq.{ext_get_or}
 use Rattle.model.specs.Layout.{state_length, word, count_at, vcpus, vcpus_at, affinity_field, affinity_at}
 use Rattle.model.specs.Roles.{role_of, is_derived, with_derived, derived_ok}

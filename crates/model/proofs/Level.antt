@@ -8,7 +8,7 @@ use borrow.Author.Tests.{ltb-true}
 use lib.Dec.{eqb, ltb}
 use lib.IntN.{pos, neg_ℤ}
 use Rattle.model.specs.Words.{bit}
-use Rattle.model.specs.Layout.{word, is_initialised, pmr_at, apr_at, running}
+use Rattle.model.specs.Layout.{word, pmr_at, apr_at, running}
 use Rattle.model.specs.Interface.{system, read_group, group_in, best, nothing, found, rank_priority, group_priority, running_level, of_group, gives, offered, level_of, level_clear, system_read_clear}
 use Rattle.model.specs.Refusals.{Check, first_failing, errno}
 use Rattle.model.specs.Calls.{read_system, acceptable, guest_checks, read_checks, checks, is_vcpu, refusal, call, describe, in_phase, read_phase}

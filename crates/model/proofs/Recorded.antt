@@ -10,11 +10,11 @@ use lib.IntN.{pos}
 use lib.ListN.{length, set, drop}
 use lib.Seq.{get_or-set_same, take-append_seam}
 use Rattle.model.specs.Words.{each}
-use Rattle.model.specs.Layout.{word, vcpus, block, affinity, affinity_at}
+use Rattle.model.specs.Layout.{word, vcpus, affinity, affinity_at}
 use Rattle.model.specs.Attributes.{Attribute, item_of, item_read, item_write}
 use Rattle.model.specs.Record.{of_vcpu_block, listed, Entry, header, attribute_of, entries, entry_read, entry_bytes, record_of, readable, entry_put, done, taking, load, restored, faults, loaded_state, saved}
 use Rattle.model.specs.declared.Refusal.TheVariants.{None}
-use Rattle.model.specs.Calls.{save, restore, call, refusal, value, front_of, handed_back, trace, describe}
+use Rattle.model.specs.Calls.{save, restore, call, refusal, front_of, handed_back, trace, describe}
 use Rattle.model.specs.declared.Item.{Item}
 use Rattle.model.specs.Demands.{Stopped, Fresh, Alike, ByRecord}
 use Rattle.model.proofs.Tests.{and-true}

@@ -22,7 +22,7 @@ use Rattle.model.specs.declared.Refusal.TheVariants.{None}
 use Rattle.model.specs.Demands.{Stopped, Fresh, Alike}
 use Rattle.model.specs.Calls.{save, restore, call, describe, refusal, handed_back}
 use Rattle.model.proofs.Numbers.{Bytes, bytes_rest, bytes-join, decode-only, encode-bytes}
-use Rattle.model.proofs.Soundness.{stopped-ready, Ready, Resting, stopped-resting}
+use Rattle.model.proofs.Soundness.{stopped-ready, Ready, stopped-resting}
 use Rattle.model.proofs.Derived.{with-record}
 use Rattle.model.proofs.Masks.{SpiWord}
 use Rattle.model.proofs.Refused.{Passed, unrefused, is-granted, refused-or-granted, refused-negative}

@@ -7,7 +7,7 @@ pub slice_bounds-run_line-end-then-b-eq10 : goal.slice_bounds-run_line-end-then-
 slice_bounds-run_line-end-then-b-eq10 c = search kept-length
 
 pub returns-then-b-eq10 : goal.returns-then-b-eq10
-returns-then-b-eq10 c = (search line-ends, (search rules, search rules))
+returns-then-b-eq10 c = record { printed_after = search line-ends; kept_bound = (search rules, search rules) }
 
 pub returns : goal.returns
-returns c = (search byte-stays, (search rules, search rules))
+returns c = record { printed_after = search byte-stays; kept_bound = (search rules, search rules) }

@@ -14,4 +14,4 @@ pub loop-i-preserved : goal.loop-i-preserved
 loop-i-preserved c = (search rules, search rules, search rules, search rules, search rules, search rules, search byte_more)
 
 pub returns : goal.returns
-returns c = (search block-ends, (search rules, search rules))
+returns c = record { printed_after = search block-ends; kept_bound = (search rules, search rules) }

@@ -5,10 +5,10 @@ use borrow.Author.Rules.{rules}
 use Rattle.console.proofs.run_last.Goals as goal
 
 pub returns-then-n-eq0 : goal.returns-then-n-eq0
-returns-then-n-eq0 c = (search no-last-line, search rules)
+returns-then-n-eq0 c = record { ends = search no-last-line; upper_bound = search rules }
 
 pub slice_bounds-run_line-end : goal.slice_bounds-run_line-end
 slice_bounds-run_line-end c = search cut-length
 
 pub returns : goal.returns
-returns c = (search last_line, search rules)
+returns c = record { ends = search last_line; upper_bound = search rules }

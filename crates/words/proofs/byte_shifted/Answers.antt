@@ -1,5 +1,4 @@
 -- `words::byte_shifted` meets its contract.
-use borrow.Author.Rules.{rules}
 use Prim.Native.Nat.{◌*◌, ◌%◌}
 use native.Mathlib.Omega.{arith}
 use lib.Pow.{shl_exact}

@@ -1,5 +1,4 @@
 -- `words::clear_low` meets its contract.
-use borrow.Author.Rules.{rules}
 use Prim.Native.Nat.{◌^◌}
 use native.Mathlib.Nat.{mod-eq_of_lt, lt_of_le_of_lt, div-mul-le_self}
 use Rattle.words.proofs.clear_low.Goals as goal

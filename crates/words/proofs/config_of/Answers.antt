@@ -1,9 +1,6 @@
 -- `words::config_of` meets its contract: after i turns the flags below i are in place.
 use borrow.Author.Rules.{rules}
-use Prim.Native.Nat.{◌*◌, ◌-◌, ◌≤◌}
-use mathlib.Core.Path.{◌≡◌}
-use Rattle.model.specs.Words.{gather}
-use Rattle.words.proofs.Edges.{config_bit, spread_none, spread-more, spread-done}
+use Rattle.words.proofs.Edges.{spread_none, spread-more, spread-done}
 use Rattle.words.proofs.config_of.Goals as goal
 
 pub loop-i-init : goal.loop-i-init

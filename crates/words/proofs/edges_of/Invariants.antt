@@ -1,9 +1,8 @@
 -- `words::edges_of` meets its contract: after i turns the flags below i are in place.
-use borrow.Author.Rules.{rules}
 use Prim.Native.Nat.{◌-◌, ◌≤◌}
 use mathlib.Core.Path.{◌≡◌}
 use Rattle.model.specs.Words.{gather}
-use Rattle.words.proofs.Edges.{upper_bit, collect-none, collect-more, collect-done}
+use Rattle.words.proofs.Edges.{upper_bit}
 use Rattle.words.proofs.edges_of.Given as goal
 
 abbrev pub invariant-loop-i : goal.invariant-loop-i

@@ -1,5 +1,4 @@
 -- `words::has_bit` meets its contract.
-use borrow.Author.Rules.{rules}
 use mathlib.Core.Path.{refl}
 use Rattle.model.specs.Words.{bit}
 use Rattle.words.proofs.has_bit.Goals as goal

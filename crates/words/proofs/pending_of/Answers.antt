@@ -1,5 +1,4 @@
 -- `words::pending_of` meets its contract.
-use borrow.Author.Rules.{rules}
 use Rattle.words.specs.Words.{pending_in}
 use Rattle.words.proofs.pending_of.Goals as goal
 

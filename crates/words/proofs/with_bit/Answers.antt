@@ -1,5 +1,4 @@
 -- `words::with_bit` meets its contract.
-use borrow.Author.Rules.{rules}
 use lib.Dec.{eqb}
 use Rattle.model.specs.Words.{bit, with_bit}
 use Rattle.words.proofs.Expressions.{gathers, same_bits, itself, ors, ands, nots, one_at, raised, lowered}

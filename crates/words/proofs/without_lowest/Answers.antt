@@ -1,5 +1,4 @@
 -- `words::without_lowest` meets its contract.
-use borrow.Author.Rules.{rules}
 use Rattle.words.proofs.Over.{lower, lower-lt, lower-rest}
 use Rattle.words.proofs.without_lowest.Goals as goal
 

@@ -1,5 +1,4 @@
 -- `words::written_under` meets its contract.
-use borrow.Author.Rules.{rules}
 use Rattle.model.specs.Words.{bit}
 use Rattle.model.specs.Registers.{flag_after}
 use Rattle.words.specs.Words.{under}

@@ -4,17 +4,17 @@ use Rattle.console.proofs.Words.{words}
 use borrow.Author.Rules.{rules}
 use Rattle.console.proofs.parse.with_one.Goals as goal
 
-pub is_same-requires : goal.is_same-requires
+pub returns-then-is_same : goal.returns-then-is_same
 unfolding rows
-is_same-requires c = search words depth 12
+returns-then-is_same c = search words depth 12
 
-pub is_same-requires-2 : goal.is_same-requires-2
+pub returns-then-a-gt-MOST : goal.returns-then-a-gt-MOST
 unfolding rows
-is_same-requires-2 c = search words depth 12
+returns-then-a-gt-MOST c = search words depth 12
 
-pub overflow_cast-result : goal.overflow_cast-result
+pub returns-then-is_same-2 : goal.returns-then-is_same-2
 unfolding rows
-overflow_cast-result c = search words depth 12
+returns-then-is_same-2 c = search words depth 12
 
 pub returns-then-is_same-3 : goal.returns-then-is_same-3
 unfolding rows

@@ -4,13 +4,17 @@ use Rattle.console.proofs.Words.{words}
 use borrow.Author.Rules.{rules}
 use Rattle.console.proofs.parse.with_three.Goals as goal
 
-pub is_same-requires-2 : goal.is_same-requires-2
+pub returns-then-is_same : goal.returns-then-is_same
 unfolding rows
-is_same-requires-2 c = search words depth 12
+returns-then-is_same c = search words depth 12
 
-pub good_if-requires-then-is_same-3 : goal.good_if-requires-then-is_same-3
+pub returns-then-is_same-2 : goal.returns-then-is_same-2
 unfolding rows
-good_if-requires-then-is_same-3 c = search words depth 12
+returns-then-is_same-2 c = search words depth 12
+
+pub returns-then-is_same-3 : goal.returns-then-is_same-3
+unfolding rows
+returns-then-is_same-3 c = search words depth 12
 
 pub returns-then-is_same-4 : goal.returns-then-is_same-4
 unfolding rows

@@ -4,13 +4,13 @@ use Rattle.console.proofs.Words.{words}
 use borrow.Author.Rules.{rules}
 use Rattle.console.proofs.parse.with_two.Goals as goal
 
-pub is_same-requires : goal.is_same-requires
+pub returns-then-is_same : goal.returns-then-is_same
 unfolding rows
-is_same-requires c = search words depth 12
+returns-then-is_same c = search words depth 12
 
-pub good_if-requires-then-is_same-2 : goal.good_if-requires-then-is_same-2
+pub returns-then-is_same-2 : goal.returns-then-is_same-2
 unfolding rows
-good_if-requires-then-is_same-2 c = search words depth 12
+returns-then-is_same-2 c = search words depth 12
 
 pub returns-then-is_same-3 : goal.returns-then-is_same-3
 unfolding rows
