@@ -7,14 +7,16 @@ mod print;
 mod room;
 mod run;
 
-ghost use Rattle.std.specs.Prelude.{◌≤◌, length};
+ghost use Rattle.std.specs.Prelude.{◌≤◌, length, IfOk};
 
 use console::parse::is_same;
-use libc::STDOUT_FILENO;
 use parse::{find, skip_spaces, trim_end};
 use print::{Out, put_differences};
 use room::{BEFORE, Bytes, DEVICE, Words, begin, copy_state};
 use run::run_line;
+use std::io::{Read, Write};
+use std::rt::{Env, Files};
+use std::{env, fs, io};
 
 // Where the call of a line ends, and where its answer and its changed words begin and end.
 #[derive(Clone, Copy)]
@@ -36,20 +38,25 @@ pub struct Tally {
 // A session has less than 2^20 bytes.
 type Text = [u8; 1048576];
 
-fn say(text: &[u8]) {
-    io::write_all(STDOUT_FILENO, text);
+fn say(to: &mut impl Write, text: &[u8]) -> io::Result<()> {
+    to.write_all(text)
 }
 
 // Tells what a line answered, or changed.
-fn tell(name: &[u8], number: u64, line: &[u8], what: &[u8], found: &[u8]) {
-    say(name);
-    say(b":");
-    io::print_decimal(STDOUT_FILENO, number);
-    say(b": ");
-    say(line);
-    say(what);
-    say(found);
-    say(b"\n");
+fn tell(
+    printer: &mut impl Write,
+    name: &[u8],
+    number: u64,
+    line: &[u8],
+    what: &[u8],
+    found: &[u8],
+) -> io::Result<()> {
+    say(printer, name)?;
+    write!(printer, ":{number}: ")?;
+    say(printer, line)?;
+    say(printer, what)?;
+    say(printer, found)?;
+    say(printer, b"\n")
 }
 
 // Where the text behind a sign begins; its end, if the sign is not there.
@@ -84,6 +91,7 @@ fn parts_of(line: &[u8]) -> Parts
 
 // Whether what was found, the first n bytes of a buffer, differs from what is expected; tells it if so.
 fn differs(
+    printer: &mut impl Write,
     name: &[u8],
     number: u64,
     line: &[u8],
@@ -91,26 +99,44 @@ fn differs(
     what: &[u8],
     out: &[u8],
     n: usize,
-) -> bool
+) -> io::Result<bool>
     requires { n ≤ length out.now }
 {
     if is_same(&out[..n], expected) {
-        return false;
+        return Ok(false);
     }
-    tell(name, number, line, what, &out[..n]);
-    true
+    tell(printer, name, number, line, what, &out[..n])?;
+    Ok(true)
 }
 
 // The same of an answer: `ok` is expected, if the line does not say.
-fn answer_differs(name: &[u8], number: u64, line: &[u8], parts: Parts, out: &[u8], n: usize) -> bool
+fn answer_differs(
+    printer: &mut impl Write,
+    name: &[u8],
+    number: u64,
+    line: &[u8],
+    parts: Parts,
+    out: &[u8],
+    n: usize,
+) -> io::Result<bool>
     requires { (parts.answer ≤ parts.answer_end) × (parts.answer_end ≤ length line.now) × (n ≤ length out.now) }
 {
     let from = parts.answer;
     let to = parts.answer_end;
     if from >= to {
-        return differs(name, number, line, b"ok", b"\n    answered ", out, n);
+        return differs(
+            printer,
+            name,
+            number,
+            line,
+            b"ok",
+            b"\n    answered ",
+            out,
+            n,
+        );
     }
     differs(
+        printer,
         name,
         number,
         line,
@@ -123,6 +149,7 @@ fn answer_differs(name: &[u8], number: u64, line: &[u8], parts: Parts, out: &[u8
 
 // Runs a line that makes a call; gives whether it differs.
 fn check_line(
+    printer: &mut impl Write,
     words: &mut Words,
     bytes: &mut Bytes,
     name: &[u8],
@@ -130,7 +157,7 @@ fn check_line(
     line: &[u8],
     parts: Parts,
     out: &mut Out,
-) -> bool
+) -> io::Result<bool>
     requires { (parts.call ≤ length line.now) × (parts.answer ≤ parts.answer_end) × (parts.answer_end ≤ length line.now) × (parts.changes ≤ parts.end) × (parts.end ≤ length line.now) }
 {
     let call = parts.call;
@@ -138,25 +165,27 @@ fn check_line(
     let to = parts.end;
     copy_state(words, DEVICE, BEFORE);
     let n = run_line(words, bytes, &line[..call], out);
-    let wrong = answer_differs(name, number, line, parts, out, n);
+    let wrong = answer_differs(printer, name, number, line, parts, out, n)?;
     if from >= to {
-        return wrong;
+        return Ok(wrong);
     }
     let m = put_differences(out, words, BEFORE);
-    wrong
-        | differs(
-            name,
-            number,
-            line,
-            &line[from..to],
-            b"\n    changed ",
-            out,
-            m,
-        )
+    let changed = differs(
+        printer,
+        name,
+        number,
+        line,
+        &line[from..to],
+        b"\n    changed ",
+        out,
+        m,
+    )?;
+    Ok(wrong | changed)
 }
 
 // Runs a line, if it makes a call.
 fn run_one(
+    printer: &mut impl Write,
     words: &mut Words,
     bytes: &mut Bytes,
     name: &[u8],
@@ -164,16 +193,16 @@ fn run_one(
     line: &[u8],
     tally: Tally,
     out: &mut Out,
-) -> Tally {
+) -> io::Result<Tally> {
     let parts = parts_of(line);
     if parts.end == 0 {
-        return tally;
+        return Ok(tally);
     }
-    let differs = check_line(words, bytes, name, number, line, parts, out);
-    Tally {
+    let differs = check_line(printer, words, bytes, name, number, line, parts, out)?;
+    Ok(Tally {
         lines: count(tally.lines, true),
         differ: count(tally.differ, differs),
-    }
+    })
 }
 
 // One more, if so.
@@ -187,7 +216,7 @@ fn count(n: u64, more: bool) -> u64 {
 }
 
 // Runs the lines of a session, the first n bytes of a text, on a device just made.
-fn run_lines(name: &[u8], text: &[u8], n: usize) -> Tally
+fn run_lines(printer: &mut impl Write, name: &[u8], text: &[u8], n: usize) -> io::Result<Tally>
     requires { n ≤ length text.now }
 {
     let mut words = [0u32; 7048];
@@ -204,6 +233,7 @@ fn run_lines(name: &[u8], text: &[u8], n: usize) -> Tally
         let end = find(text, at, n, b'\n');
         number = count(number, true);
         tally = run_one(
+            printer,
             &mut words,
             &mut bytes,
             name,
@@ -211,64 +241,59 @@ fn run_lines(name: &[u8], text: &[u8], n: usize) -> Tally
             &text[at..end],
             tally,
             &mut out,
-        );
+        )?;
         at = end + 1;
     }
-    tally
+    Ok(tally)
 }
 
 // Runs a session, and says what it came to.
-fn run_text(name: &[u8], text: &Text, n: usize)
+fn run_text(printer: &mut impl Write, name: &[u8], text: &Text, n: usize) -> io::Result<()>
     requires { n ≤ 1048576 }
 {
-    let tally = run_lines(name, text, n);
-    say(name);
-    say(b": ");
-    io::print_decimal(STDOUT_FILENO, tally.lines);
-    say(b" lines, ");
-    io::print_decimal(STDOUT_FILENO, tally.differ);
-    say(b" differ\n");
+    let tally = run_lines(printer, name, text, n)?;
+    let lines = tally.lines;
+    let differ = tally.differ;
+    say(printer, name)?;
+    writeln!(printer, ": {lines} lines, {differ} differ")
 }
 
 // The bytes of a file, as many as there is room for.
-fn read_text(file: i32, text: &mut Text) -> usize
-    ensures { result ≤ 1048576 }
+fn read_text(file: &mut impl Read, text: &mut Text) -> io::Result<usize>
+    ensures { IfOk result (λ n. n ≤ 1048576) }
 {
-    let n = io::read_full(file, text);
-    libc::close(file);
-    if n > 1048576 { 1048576 } else { n }
+    let mut done: usize = 0;
+    for _ in 0..u64::MAX {
+        let n = file.read(&mut text[done..])?;
+        if n == 0 {
+            break;
+        }
+        done += n;
+    }
+    Ok(done)
 }
 
 // Runs the session of a file.
-fn run_file(name: &[u8]) {
-    let file = os::open_read(name);
-    if file < 0 {
-        say(name);
-        say(b": cannot be opened\n");
-        return;
-    }
+fn run_file<R: Files + Print>(rt: &R, name: &str) -> io::Result<()> {
+    let Ok(mut file) = fs::open(rt, name) else {
+        return println!(rt; "{name}: cannot be opened");
+    };
     let mut text = [0u8; 1048576];
-    let n = read_text(file, &mut text);
+    let n = read_text(&mut file, &mut text)?;
     if n == 1048576 {
-        say(name);
-        say(b": too long\n");
-        return;
+        return println!(rt; "{name}: too long");
     }
-    run_text(name, &text, n);
+    run_text(&mut io::writer(rt), name.as_bytes(), &text, n)
 }
 
-// Runs the session that an argument names.
-fn run_argument(i: usize) {
-    let mut name = io::buffer();
-    let n = os::arg(i, &mut name);
-    run_file(&name[..n]);
+// Runs the sessions that the arguments name.
+fn run_arguments<R: Files + Env + Print + Alloc>(rt: &R) -> io::Result<()> {
+    for name in env::args(rt)?.skip(1) {
+        run_file(rt, name.as_str())?;
+    }
+    Ok(())
 }
 
-fn main() {
-    let n = os::arg_count();
-    let mut i: usize = 1;
-    while i < n {
-        run_argument(i);
-        i += 1;
-    }
+fn main(rt: HostRuntime) -> io::Result<()> {
+    run_arguments(&rt)
 }

@@ -24,14 +24,12 @@ pub fn find(line: &[u8], from: usize, to: usize, b: u8) -> usize
     requires { (from ≤ to) × (to ≤ length line.now) }
     ensures { (from ≤ result) × (result ≤ to) }
 {
-    let mut i = from;
-    while i < to {
+    for i in from..to {
         if line[i] == b {
             return i;
         }
-        i += 1;
     }
-    i
+    to
 }
 
 // The place of the first byte that is no space.
@@ -39,14 +37,12 @@ pub fn skip_spaces(line: &[u8], from: usize, to: usize) -> usize
     requires { (from ≤ to) × (to ≤ length line.now) }
     ensures { (from ≤ result) × (result ≤ to) }
 {
-    let mut i = from;
-    while i < to {
+    for i in from..to {
         if line[i] != b' ' {
             return i;
         }
-        i += 1;
     }
-    i
+    to
 }
 
 // Where the bytes end that are followed by spaces only.
@@ -54,14 +50,12 @@ pub fn trim_end(line: &[u8], from: usize, to: usize) -> usize
     requires { (from ≤ to) × (to ≤ length line.now) }
     ensures { (from ≤ result) × (result ≤ to) }
 {
-    let mut i = to;
-    while i > from {
-        if line[i - 1] != b' ' {
-            return i;
+    for i in (from..to).rev() {
+        if line[i] != b' ' {
+            return i + 1;
         }
-        i -= 1;
     }
-    i
+    from
 }
 
 // One number more.
@@ -133,14 +127,12 @@ pub fn read_pairs(digits: &[u8], into: &mut [u8], at: usize, end: usize) -> Pair
 fn put_bytes(digits: &[u8], into: &mut [u8], at: usize, n: usize) -> Pairs
     requires { (n + n ≤ length digits.now) × (at + n ≤ length into.old) }
 {
-    let mut i: usize = 0;
-    while i < n {
+    for i in 0..n {
         let x = pair_of(digits[2 * i], digits[2 * i + 1]);
         if x > 255 {
             return Pairs::Bad;
         }
         into[at + i] = (x % 256) as u8;
-        i += 1;
     }
     Pairs::Read(n)
 }

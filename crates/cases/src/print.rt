@@ -82,10 +82,8 @@ pub fn put_differences(out: &mut Out, words: &Words, from: usize) -> usize
     ensures { result ≤ 40960 }
 {
     let mut at: usize = 0;
-    let mut i: usize = 0;
-    while i < MOST_WORDS {
+    for i in 0..MOST_WORDS {
         at = add_word(out, at, i, words[i], words[from + i]);
-        i += 1;
     }
     if at == 0 {
         return add_text(out, 0, b"none");
@@ -112,12 +110,10 @@ pub fn put_pairs(out: &mut Out, bytes: &[u8]) -> usize
     ensures { result ≤ 40960 }
 {
     let n = shown(bytes);
-    let mut i: usize = 0;
-    while i < n {
+    for i in 0..n {
         let x = wide(bytes[i]);
         out[2 * i] = glyph_of(x / 16 % 16);
         out[2 * i + 1] = glyph_of(x % 16);
-        i += 1;
     }
-    2 * i
+    2 * n
 }

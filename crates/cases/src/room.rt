@@ -24,21 +24,17 @@ pub type Bytes = [u8; 18432];
 pub fn copy_state(words: &mut Words, from: usize, to: usize)
     requires { (from ≤ 5286) × (to ≤ 5286) }
 {
-    let mut i: usize = 0;
-    while i < 1762 {
+    for i in 0..1762 {
         words[to + i] = words[from + i];
-        i += 1;
     }
 }
 
 // Exchanges the device with the other one.
 pub fn swap_devices(words: &mut Words) {
-    let mut i: usize = 0;
-    while i < 1762 {
+    for i in 0..1762 {
         let x = words[i];
         words[i] = words[OTHER + i];
         words[OTHER + i] = x;
-        i += 1;
     }
 }
 
@@ -46,10 +42,8 @@ pub fn swap_devices(words: &mut Words) {
 pub fn copy_buffer(bytes: &mut Bytes, from: usize, to: usize)
     requires { (from ≤ 9216) × (to ≤ 9216) }
 {
-    let mut i: usize = 0;
-    while i < BUFFER {
+    for i in 0..BUFFER {
         bytes[to + i] = bytes[from + i];
-        i += 1;
     }
 }
 
@@ -68,19 +62,15 @@ pub fn set_length(words: &mut Words, n: usize) {
 // Sets every word of the device.
 pub fn set_words(words: &mut Words, x: u32) {
     let n = lent(words);
-    let mut i: usize = 0;
-    while i < n {
+    for i in 0..n {
         words[i] = x;
-        i += 1;
     }
 }
 
 // Sets every byte of the buffer.
 pub fn set_bytes(bytes: &mut Bytes, x: u8) {
-    let mut i: usize = 0;
-    while i < BUFFER {
+    for i in 0..BUFFER {
         bytes[i] = x;
-        i += 1;
     }
 }
 
@@ -107,24 +97,20 @@ pub fn lent(words: &Words) -> usize
 
 // The first byte of the buffer that differs from the mark, or the buffer's length.
 pub fn first_touched(bytes: &Bytes) -> usize {
-    let mut i: usize = 0;
-    while i < BUFFER {
+    for i in 0..BUFFER {
         if bytes[i] != bytes[BUFFER + i] {
             return i;
         }
-        i += 1;
     }
-    i
+    BUFFER
 }
 
 // One more than the last byte that differs from the mark, or 0.
 pub fn last_touched(bytes: &Bytes) -> usize {
-    let mut i = BUFFER;
-    while i > 0 {
-        if bytes[i - 1] != bytes[BUFFER + i - 1] {
-            return i;
+    for i in (0..BUFFER).rev() {
+        if bytes[i] != bytes[BUFFER + i] {
+            return i + 1;
         }
-        i -= 1;
     }
-    i
+    0
 }

@@ -1,28 +1,26 @@
 // Runs the sessions of docs/class, a new device for each, and prints the answers under the session's name.
 #![tactic(auto)]
 
-use libc::STDOUT_FILENO;
+use std::rt::Files;
+use std::{fs, io};
 
-fn run_file(name: &[u8]) {
-    io::write_all(STDOUT_FILENO, name);
-    io::write_all(STDOUT_FILENO, b"\n");
-    let file = os::open_read(name);
-    if file < 0 {
-        os::fail(name);
-        return;
+// A session whose file cannot be opened is named on standard error, and the others are run.
+fn run_file<R: Files + Print + Eprint>(rt: &R, name: &str) -> io::Result<()> {
+    println!(rt; "{name}")?;
+    match fs::open(rt, name) {
+        Ok(mut file) => session::run(&mut file, &mut io::writer(rt)),
+        Err(e) => eprintln!(rt; "{name}: {e}"),
     }
-    session::run(file, STDOUT_FILENO);
-    libc::close(file);
 }
 
-fn main() {
-    run_file(b"first.session");
-    run_file(b"set-up.session");
-    run_file(b"pending-first.session");
-    run_file(b"pending-spare.session");
-    run_file(b"enables-first.session");
-    run_file(b"enables-spare.session");
-    run_file(b"lines-first.session");
-    run_file(b"lines-spare.session");
-    run_file(b"lines-in-order.session");
+fn main(rt: HostRuntime) -> io::Result<()> {
+    run_file(&rt, "first.session")?;
+    run_file(&rt, "set-up.session")?;
+    run_file(&rt, "pending-first.session")?;
+    run_file(&rt, "pending-spare.session")?;
+    run_file(&rt, "enables-first.session")?;
+    run_file(&rt, "enables-spare.session")?;
+    run_file(&rt, "lines-first.session")?;
+    run_file(&rt, "lines-spare.session")?;
+    run_file(&rt, "lines-in-order.session")
 }

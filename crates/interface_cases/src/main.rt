@@ -3,6 +3,8 @@
 
 use report::{say, say_answer, say_changed, say_hex};
 use state::{Mpidr, VcpuIndex};
+use std::io;
+use std::io::Write;
 
 // ---- steps
 
@@ -90,35 +92,37 @@ fn call(s: &mut [u32; 1760], row: [u64; 4]) -> i64 {
 
 // Steps that print nothing.
 fn quiet(s: &mut [u32; 1760], table: &[[u64; 4]]) {
-    let mut i: usize = 0;
-    while i < table.len() {
-        call(s, table[i]);
-        i += 1;
+    for row in table {
+        call(s, *row);
     }
 }
 
 // A step's answer, and the words that it changed.
-fn step(s: &mut [u32; 1760], row: [u64; 4]) {
+fn step(out: &mut impl Write, s: &mut [u32; 1760], row: [u64; 4]) -> io::Result<()> {
     let before = *s;
-    say_answer(call(s, row));
-    say_changed(s, &before);
-    say(b";");
+    say_answer(out, call(s, row))?;
+    say_changed(out, s, &before)?;
+    say(out, b";")
 }
 
-fn each_step(s: &mut [u32; 1760], table: &[[u64; 4]]) {
-    let mut i: usize = 0;
-    while i < table.len() {
-        step(s, table[i]);
-        i += 1;
+fn each_step(out: &mut impl Write, s: &mut [u32; 1760], table: &[[u64; 4]]) -> io::Result<()> {
+    for row in table {
+        step(out, s, *row)?;
     }
+    Ok(())
 }
 
 // A line of steps.
-fn steps(name: &[u8], s: &mut [u32; 1760], table: &[[u64; 4]]) {
-    say(name);
-    say(b":");
-    each_step(s, table);
-    say(b"\n");
+fn steps(
+    out: &mut impl Write,
+    name: &[u8],
+    s: &mut [u32; 1760],
+    table: &[[u64; 4]],
+) -> io::Result<()> {
+    say(out, name)?;
+    say(out, b":")?;
+    each_step(out, s, table)?;
+    say(out, b"\n")
 }
 
 // ---- devices
@@ -212,30 +216,29 @@ fn prepare(s: &mut [u32; 1760], before: Before) {
 }
 
 // Steps on a device of its own.
-fn case(name: &[u8], before: Before, table: &[[u64; 4]]) {
+fn case(out: &mut impl Write, name: &[u8], before: Before, table: &[[u64; 4]]) -> io::Result<()> {
     let mut s = device(96);
     prepare(&mut s, before);
-    steps(name, &mut s, table);
+    steps(out, name, &mut s, table)
 }
 
 // One step on a device of its own: its numbers, and the step.
-fn alone(name: &[u8], row: [u64; 4]) {
+fn alone(out: &mut impl Write, name: &[u8], row: [u64; 4]) -> io::Result<()> {
     let mut s = device(96);
-    say(name);
-    say_hex(row[1]);
-    say_hex(row[2]);
-    say_hex(row[3]);
-    say(b":");
-    step(&mut s, row);
-    say(b"\n");
+    say(out, name)?;
+    say_hex(out, row[1])?;
+    say_hex(out, row[2])?;
+    say_hex(out, row[3])?;
+    say(out, b":")?;
+    step(out, &mut s, row)?;
+    say(out, b"\n")
 }
 
-fn rows(name: &[u8], table: &[[u64; 4]]) {
-    let mut i: usize = 0;
-    while i < table.len() {
-        alone(name, table[i]);
-        i += 1;
+fn rows(out: &mut impl Write, name: &[u8], table: &[[u64; 4]]) -> io::Result<()> {
+    for row in table {
+        alone(out, name, *row)?;
     }
+    Ok(())
 }
 
 // ---- worked on paper
@@ -270,22 +273,25 @@ const P8: [[u64; 4]; 2] = [
     [WRITE, 1, SGI1R, 0x100_0300_0000],
 ];
 
-fn p5(name: &[u8], value: u64) {
+fn p5(out: &mut impl Write, name: &[u8], value: u64) -> io::Result<()> {
     let mut s = device(96);
     prepare(&mut s, Before::AtA0);
     call(&mut s, [WRITE, 1, BPR1, value]);
-    steps(name, &mut s, &P5);
+    steps(out, name, &mut s, &P5)
 }
 
-fn paper() {
-    say(b"worked on paper: of each step the answer and the words changed\n");
-    case(b"P4", Before::AtA0, &P4);
-    p5(b"P5, BPR1 3", 3);
-    p5(b"P5, BPR1 5", 5);
-    p5(b"P5, BPR1 6", 6);
-    p5(b"P5, BPR1 7", 7);
-    case(b"P6", Before::AtA0, &P6);
-    rows(b"P8", &P8);
+fn paper(out: &mut impl Write) -> io::Result<()> {
+    say(
+        out,
+        b"worked on paper: of each step the answer and the words changed\n",
+    )?;
+    case(out, b"P4", Before::AtA0, &P4)?;
+    p5(out, b"P5, BPR1 3", 3)?;
+    p5(out, b"P5, BPR1 5", 5)?;
+    p5(out, b"P5, BPR1 6", 6)?;
+    p5(out, b"P5, BPR1 7", 7)?;
+    case(out, b"P6", Before::AtA0, &P6)?;
+    rows(out, b"P8", &P8)
 }
 
 // ---- preemption
@@ -335,13 +341,13 @@ const DEACTIVATED: [[u64; 4]; 5] = [
 ];
 
 // Four deep, and out again: in EOImode 1 each stays active until DIR.
-fn chain(name: &[u8], mode: u64) {
+fn chain(out: &mut impl Write, name: &[u8], mode: u64) -> io::Result<()> {
     let mut s = device(96);
     quiet(&mut s, &CHAIN);
     call(&mut s, [WRITE, 1, CTLR, mode]);
-    steps(name, &mut s, &INWARD);
-    steps(b"end of each", &mut s, &OUTWARD);
-    steps(b"DIR of each", &mut s, &DEACTIVATED);
+    steps(out, name, &mut s, &INWARD)?;
+    steps(out, b"end of each", &mut s, &OUTWARD)?;
+    steps(out, b"DIR of each", &mut s, &DEACTIVATED)
 }
 
 // ---- the best
@@ -398,16 +404,16 @@ const TAKEN: [[u64; 4]; 11] = [
 ];
 
 // Each is acknowledged, and its priority dropped.
-fn taken(name: &[u8], first: &[[u64; 4]]) {
+fn taken(out: &mut impl Write, name: &[u8], first: &[[u64; 4]]) -> io::Result<()> {
     let mut s = device(96);
     quiet(&mut s, first);
-    steps(name, &mut s, &TAKEN);
+    steps(out, name, &mut s, &TAKEN)
 }
 
-fn ties() {
-    taken(b"ties at 50", &TIED);
-    taken(b"a later word at 48", &LATER);
-    taken(b"ties at 0", &FIRST);
+fn ties(out: &mut impl Write) -> io::Result<()> {
+    taken(out, b"ties at 50", &TIED)?;
+    taken(out, b"a later word at 48", &LATER)?;
+    taken(out, b"ties at 0", &FIRST)
 }
 
 const HIDDEN: [[u64; 4]; 14] = [
@@ -444,9 +450,14 @@ const HIDDEN_STILL: [[u64; 4]; 13] = [
     [READ, 1, RPR, 0],
 ];
 
-fn hiding() {
-    case(b"group 0 hides group 1", Before::Hiding, &HIDDEN);
-    case(b"not given, it hides still", Before::Hiding, &HIDDEN_STILL);
+fn hiding(out: &mut impl Write) -> io::Result<()> {
+    case(out, b"group 0 hides group 1", Before::Hiding, &HIDDEN)?;
+    case(
+        out,
+        b"not given, it hides still",
+        Before::Hiding,
+        &HIDDEN_STILL,
+    )
 }
 
 // ---- PMR
@@ -487,10 +498,10 @@ const LEAST: [[u64; 4]; 7] = [
     [READ, 1, IAR1, 0],
 ];
 
-fn masks() {
-    case(b"PMR around a0", Before::AtA0, &EDGES);
-    case(b"priority f8, then f0", Before::AtA0, &LAST);
-    case(b"priority 0", Before::AtA0, &LEAST);
+fn masks(out: &mut impl Write) -> io::Result<()> {
+    case(out, b"PMR around a0", Before::AtA0, &EDGES)?;
+    case(out, b"priority f8, then f0", Before::AtA0, &LAST)?;
+    case(out, b"priority 0", Before::AtA0, &LEAST)
 }
 
 // ---- binary points
@@ -501,45 +512,49 @@ const GROUP0: [u64; 7] = [BPR0, IAR0, AP0R, EOIR0, 0x9, 0x1_0409, 0x200];
 const GROUP1: [u64; 7] = [BPR1, IAR1, AP1R, EOIR1, 0x1, 0x1_0401, 0x2];
 
 // The AP register after that SGI is acknowledged at priority 8 x level; then it is ended.
-fn level_case(s: &mut [u32; 1760], g: [u64; 7], level: u64) {
+fn level_case(
+    out: &mut impl Write,
+    s: &mut [u32; 1760],
+    g: [u64; 7],
+    level: u64,
+) -> io::Result<()> {
     call(s, [OWN_PRIORITY, 1, g[5], level << 3]);
     call(s, [GICR, 1, 0x1_0200, g[6]]);
     call(s, [READ, 1, g[1], 0]);
-    say_answer(call(s, [READ, 1, g[2], 0]));
+    say_answer(out, call(s, [READ, 1, g[2], 0]))?;
     call(s, [WRITE, 1, g[3], g[4]]);
+    Ok(())
 }
 
-fn each_level(s: &mut [u32; 1760], g: [u64; 7]) {
-    let mut level: u64 = 0;
-    while level < 32 {
-        level_case(s, g, level);
-        level += 1;
+fn each_level(out: &mut impl Write, s: &mut [u32; 1760], g: [u64; 7]) -> io::Result<()> {
+    for level in 0..32 {
+        level_case(out, s, g, level)?;
     }
+    Ok(())
 }
 
 // A line: the value written to BPR, what it reads, and the AP register at each level.
-fn levels(name: &[u8], g: [u64; 7], value: u64) {
+fn levels(out: &mut impl Write, name: &[u8], g: [u64; 7], value: u64) -> io::Result<()> {
     let mut s = device(96);
     call(&mut s, [WRITE, 1, g[0], value]);
-    say(name);
-    say_hex(value);
-    say_answer(call(&mut s, [READ, 1, g[0], 0]));
-    say(b":");
-    each_level(&mut s, g);
-    say(b"\n");
+    say(out, name)?;
+    say_hex(out, value)?;
+    say_answer(out, call(&mut s, [READ, 1, g[0], 0]))?;
+    say(out, b":")?;
+    each_level(out, &mut s, g)?;
+    say(out, b"\n")
 }
 
-fn both_groups(value: u64) {
-    levels(b"BPR0", GROUP0, value);
-    levels(b"BPR1", GROUP1, value);
+fn both_groups(out: &mut impl Write, value: u64) -> io::Result<()> {
+    levels(out, b"BPR0", GROUP0, value)?;
+    levels(out, b"BPR1", GROUP1, value)
 }
 
-fn binary_points() {
-    let mut value: u64 = 0;
-    while value < 8 {
-        both_groups(value);
-        value += 1;
+fn binary_points(out: &mut impl Write) -> io::Result<()> {
+    for value in 0..8 {
+        both_groups(out, value)?;
     }
+    Ok(())
 }
 
 // ---- end of interrupt
@@ -593,12 +608,12 @@ const BOTH: [[u64; 4]; 16] = [
     [WRITE, 1, EOIR1, 0x42],
 ];
 
-fn ends() {
-    say(b"end of interrupt and deactivate\n");
-    case(b"absent IDs", Before::Active, &ABSENT);
-    case(b"an inactive ID, idle", Before::Active, &INACTIVE);
-    case(b"foreign IDs", Before::Active, &FOREIGN);
-    case(b"both AP registers", Before::Active, &BOTH);
+fn ends(out: &mut impl Write) -> io::Result<()> {
+    say(out, b"end of interrupt and deactivate\n")?;
+    case(out, b"absent IDs", Before::Active, &ABSENT)?;
+    case(out, b"an inactive ID, idle", Before::Active, &INACTIVE)?;
+    case(out, b"foreign IDs", Before::Active, &FOREIGN)?;
+    case(out, b"both AP registers", Before::Active, &BOTH)
 }
 
 const DIRS: [[u64; 4]; 17] = [
@@ -633,10 +648,10 @@ const LAST_SPI: [[u64; 4]; 8] = [
     [SIGNAL, 1, 0, 0],
 ];
 
-fn deactivates() {
-    case(b"DIR", Before::Active, &DIRS);
+fn deactivates(out: &mut impl Write) -> io::Result<()> {
+    case(out, b"DIR", Before::Active, &DIRS)?;
     let mut s = device(1024);
-    steps(b"count 400", &mut s, &LAST_SPI);
+    steps(out, b"count 400", &mut s, &LAST_SPI)
 }
 
 // ---- HPPIR and the signal
@@ -710,10 +725,10 @@ const CANDIDATE: [[u64; 4]; 21] = [
     [READ, 1, HPPIR1, 0],
 ];
 
-fn pending() {
-    say(b"HPPIR and the signal\n");
-    case(b"PMR and running priority", Before::Two, &HELD);
-    case(b"group enables", Before::Two, &ENABLES);
+fn pending(out: &mut impl Write) -> io::Result<()> {
+    say(out, b"HPPIR and the signal\n")?;
+    case(out, b"PMR and running priority", Before::Two, &HELD)?;
+    case(out, b"group enables", Before::Two, &ENABLES)
 }
 
 // SPI 2a is latched and its line high.
@@ -748,10 +763,10 @@ const EDGE: [[u64; 4]; 13] = [
     [READ, 1, IAR1, 0],
 ];
 
-fn candidates() {
-    case(b"a candidate", Before::Two, &CANDIDATE);
-    case(b"level, line high", Before::Nothing, &LEVEL);
-    case(b"edge, line high", Before::Nothing, &EDGE);
+fn candidates(out: &mut impl Write) -> io::Result<()> {
+    case(out, b"a candidate", Before::Two, &CANDIDATE)?;
+    case(out, b"level, line high", Before::Nothing, &LEVEL)?;
+    case(out, b"edge, line high", Before::Nothing, &EDGE)
 }
 
 // ---- SGIs
@@ -831,11 +846,11 @@ const ITSELF: [[u64; 4]; 7] = [
     [SIGNAL, 1, 0, 0],
 ];
 
-fn sgis() {
-    say(b"SGIs: the writer, SGI1R or SGI0R, and the value\n");
-    rows(b"SGI", &LISTS);
-    rows(b"SGI", &OTHERS);
-    rows(b"SGI", &GROUPS);
+fn sgis(out: &mut impl Write) -> io::Result<()> {
+    say(out, b"SGIs: the writer, SGI1R or SGI0R, and the value\n")?;
+    rows(out, b"SGI", &LISTS)?;
+    rows(out, b"SGI", &OTHERS)?;
+    rows(out, b"SGI", &GROUPS)
 }
 
 // vCPU 3 gets group 0, PMR 80 and SGI 3 enabled, and is stopped again; then SGI 3 is sent to it.
@@ -853,10 +868,10 @@ const SENT: [[u64; 4]; 11] = [
     [READ, 3, IAR0, 0],
 ];
 
-fn latched() {
-    case(b"each ID to affinity 1", Before::Nothing, &EVERY_ID);
-    case(b"to itself", Before::Nothing, &ITSELF);
-    case(b"to a stopped vCPU", Before::Nothing, &SENT);
+fn latched(out: &mut impl Write) -> io::Result<()> {
+    case(out, b"each ID to affinity 1", Before::Nothing, &EVERY_ID)?;
+    case(out, b"to itself", Before::Nothing, &ITSELF)?;
+    case(out, b"to a stopped vCPU", Before::Nothing, &SENT)
 }
 
 // ---- plain registers
@@ -907,10 +922,10 @@ const WHOLE: [[u64; 4]; 22] = [
     [READ, 1, IGRPEN1, 0],
 ];
 
-fn plain() {
-    say(b"plain registers\n");
-    case(b"PMR, BPRs, SRE", Before::Nothing, &MASKED);
-    case(b"APs, CTLR, IGRPENs", Before::Nothing, &WHOLE);
+fn plain(out: &mut impl Write) -> io::Result<()> {
+    say(out, b"plain registers\n")?;
+    case(out, b"PMR, BPRs, SRE", Before::Nothing, &MASKED)?;
+    case(out, b"APs, CTLR, IGRPENs", Before::Nothing, &WHOLE)
 }
 
 // ---- refusals
@@ -949,35 +964,34 @@ const BUSY: [[u64; 4]; 3] = [
 ];
 
 // A read, and a write of a value that changes each register that is written, but SRE and DIR.
-fn both_ways(s: &mut [u32; 1760], v: u64, encoding: u64) {
-    step(s, [READ, v, encoding, 0]);
-    step(s, [WRITE, v, encoding, 0x0500_0006]);
+fn both_ways(out: &mut impl Write, s: &mut [u32; 1760], v: u64, encoding: u64) -> io::Result<()> {
+    step(out, s, [READ, v, encoding, 0])?;
+    step(out, s, [WRITE, v, encoding, 0x0500_0006])
 }
 
 // By vCPU 1 of a device that is not sound, and of one that is not initialised; by the missing vCPU 4, by vCPU 3, which is stopped, and by vCPU 1.
-fn encoding_case(encoding: u64) {
+fn encoding_case(out: &mut impl Write, encoding: u64) -> io::Result<()> {
     let mut s = device(96);
     quiet(&mut s, &BUSY);
-    say_hex(encoding);
-    say(b":");
+    say_hex(out, encoding)?;
+    say(out, b":")?;
     s[15] = 1;
-    both_ways(&mut s, 1, encoding);
+    both_ways(out, &mut s, 1, encoding)?;
     let mut t = added(96);
-    both_ways(&mut t, 1, encoding);
+    both_ways(out, &mut t, 1, encoding)?;
     s[15] = 0;
-    both_ways(&mut s, 4, encoding);
-    both_ways(&mut s, 3, encoding);
-    both_ways(&mut s, 1, encoding);
-    say(b"\n");
+    both_ways(out, &mut s, 4, encoding)?;
+    both_ways(out, &mut s, 3, encoding)?;
+    both_ways(out, &mut s, 1, encoding)?;
+    say(out, b"\n")
 }
 
-fn encodings(name: &[u8], table: &[u64]) {
-    let mut i: usize = 0;
-    while i < table.len() {
-        say(name);
-        encoding_case(table[i]);
-        i += 1;
+fn encodings(out: &mut impl Write, name: &[u8], table: &[u64]) -> io::Result<()> {
+    for encoding in table {
+        say(out, name)?;
+        encoding_case(out, *encoding)?;
     }
+    Ok(())
 }
 
 // Indexes that are missing and the order of refusals: of the signal query, and of accesses.
@@ -994,44 +1008,47 @@ const REFUSED: [[u64; 4]; 10] = [
     [WRITE, 3, IAR1, 0],
 ];
 
-fn refused(name: &[u8], s: &mut [u32; 1760]) {
-    steps(name, s, &REFUSED);
+fn refused(out: &mut impl Write, name: &[u8], s: &mut [u32; 1760]) -> io::Result<()> {
+    steps(out, name, s, &REFUSED)
 }
 
-fn refusals() {
+fn refusals(out: &mut impl Write) -> io::Result<()> {
     say(
+        out,
         b"read and written: not sound; not initialised; vCPU 4, missing; vCPU 3, stopped; vCPU 1\n",
-    );
-    encodings(b"listed", &LISTED);
-    encodings(b"unlisted", &UNLISTED);
+    )?;
+    encodings(out, b"listed", &LISTED)?;
+    encodings(out, b"unlisted", &UNLISTED)?;
     let mut s = device(96);
     quiet(&mut s, &BUSY);
-    refused(b"device", &mut s);
+    refused(out, b"device", &mut s)?;
     s[15] = 1;
-    refused(b"not sound", &mut s);
+    refused(out, b"not sound", &mut s)?;
     let mut t = added(96);
-    refused(b"not initialised", &mut t);
+    refused(out, b"not initialised", &mut t)
 }
 
-fn main() {
-    paper();
-    say(b"preemption\n");
-    chain(b"EOImode 0", 0);
-    chain(b"EOImode 1", 2);
-    say(b"the best\n");
-    ties();
-    hiding();
-    masks();
+fn main(rt: HostRuntime) -> io::Result<()> {
+    let mut out = rt.stdout();
+    paper(&mut out)?;
+    say(&mut out, b"preemption\n")?;
+    chain(&mut out, b"EOImode 0", 0)?;
+    chain(&mut out, b"EOImode 1", 2)?;
+    say(&mut out, b"the best\n")?;
+    ties(&mut out)?;
+    hiding(&mut out)?;
+    masks(&mut out)?;
     say(
+        &mut out,
         b"binary points: as written, as read, and the AP register that an acknowledge at each of the priorities 0, 8, .. f8 sets\n",
-    );
-    binary_points();
-    ends();
-    deactivates();
-    pending();
-    candidates();
-    sgis();
-    latched();
-    plain();
-    refusals();
+    )?;
+    binary_points(&mut out)?;
+    ends(&mut out)?;
+    deactivates(&mut out)?;
+    pending(&mut out)?;
+    candidates(&mut out)?;
+    sgis(&mut out)?;
+    latched(&mut out)?;
+    plain(&mut out)?;
+    refusals(&mut out)
 }

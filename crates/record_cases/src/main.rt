@@ -3,26 +3,21 @@
 
 ghost use Rattle.std.specs.Prelude.{◌≤◌};
 
-use libc::STDOUT_FILENO;
 use report::{say, say_answer, say_changed, say_decimal, say_signed};
 use state::{Mpidr, VcpuIndex};
+use std::io;
+use std::io::Write;
 
 // ---- printing
 
-fn wide(x: u8) -> u64 {
-    x as u64
-}
-
 // The bytes from one place to before another, each as two hex digits.
-fn say_bytes(bytes: &[u8], from: usize, to: usize) {
-    let mut i = from;
-    while i < to {
+fn say_bytes(out: &mut impl Write, bytes: &[u8], from: usize, to: usize) -> io::Result<()> {
+    for i in from..to {
         if i < bytes.len() {
-            say(b" ");
-            io::print_hex(STDOUT_FILENO, wide(bytes[i]), 2);
+            write!(out, " {:02x}", bytes[i])?;
         }
-        i += 1;
     }
+    Ok(())
 }
 
 // 1 for a byte that is not a5.
@@ -35,10 +30,8 @@ fn is_filled(x: u8) -> usize
 // How many bytes are not a5. A buffer holds nothing else before it is lent, and no record here has one.
 fn filled(buf: &[u8]) -> usize {
     let mut n: usize = 0;
-    let mut i: usize = 0;
-    while i < buf.len() {
-        n += is_filled(buf[i]);
-        i += 1;
+    for x in buf {
+        n += is_filled(*x);
     }
     n
 }
@@ -76,58 +69,61 @@ fn line(s: &mut [u32; 1760], level: bool) {
 // ---- save
 
 // A save: the answer, how many bytes of the buffer are filled, and those from 66 on.
-fn fill(s: &[u32; 1760], buf: &mut [u8]) {
-    say_signed(calls::fill(s, buf));
-    say(b", filled ");
-    say_decimal(filled(buf) as u64);
-    say(b":");
-    say_bytes(buf, 66, 80);
-    say(b"\n");
+fn fill(out: &mut impl Write, s: &[u32; 1760], buf: &mut [u8]) -> io::Result<()> {
+    say_signed(out, calls::fill(s, buf))?;
+    say(out, b", filled ")?;
+    say_decimal(out, filled(buf) as u64)?;
+    say(out, b":")?;
+    say_bytes(out, buf, 66, 80)?;
+    say(out, b"\n")
 }
 
 // A save that hands the front part back: the result, the part's length, the part, and how many bytes of the buffer are filled.
-fn hand_back(s: &[u32; 1760], buf: &mut [u8]) {
+fn hand_back(out: &mut impl Write, s: &[u32; 1760], buf: &mut [u8]) -> io::Result<()> {
     let mut result: i64 = 1;
     let front = calls::save(s, buf, &mut result);
-    say_signed(result);
-    say(b", front ");
-    say_decimal(front.len() as u64);
-    say(b":");
-    say_bytes(front, 0, 80);
-    say(b"; filled ");
-    say_decimal(filled(buf) as u64);
-    say(b"\n");
+    say_signed(out, result)?;
+    say(out, b", front ")?;
+    say_decimal(out, front.len() as u64)?;
+    say(out, b":")?;
+    say_bytes(out, front, 0, 80)?;
+    say(out, b"; filled ")?;
+    say_decimal(out, filled(buf) as u64)?;
+    say(out, b"\n")
 }
 
-fn save(name: &[u8], s: &[u32; 1760]) {
-    say(name);
-    say(b"\n");
+fn save(out: &mut impl Write, name: &[u8], s: &[u32; 1760]) -> io::Result<()> {
+    say(out, name)?;
+    say(out, b"\n")?;
     let mut none = [0xa5u8; 0];
-    fill(s, &mut none);
+    fill(out, s, &mut none)?;
     let mut short = [0xa5u8; 75];
-    fill(s, &mut short);
-    hand_back(s, &mut short);
+    fill(out, s, &mut short)?;
+    hand_back(out, s, &mut short)?;
     let mut exact = [0xa5u8; 76];
-    fill(s, &mut exact);
+    fill(out, s, &mut exact)?;
     let mut long = [0xa5u8; 80];
-    fill(s, &mut long);
+    fill(out, s, &mut long)?;
     let mut again = [0xa5u8; 80];
-    hand_back(s, &mut again);
+    hand_back(out, s, &mut again)?;
     let mut longest = [0xa5u8; 9000];
-    hand_back(s, &mut longest);
+    hand_back(out, s, &mut longest)
 }
 
-fn saves() {
-    say(b"save into 0, 75, 76 and 80 bytes of a5; of 75, 80 and 9000 the front part handed back\n");
+fn saves(out: &mut impl Write) -> io::Result<()> {
+    say(
+        out,
+        b"save into 0, 75, 76 and 80 bytes of a5; of 75, 80 and 9000 the front part handed back\n",
+    )?;
     let mut s = added(64);
-    save(b"not initialised", &s);
+    save(out, b"not initialised", &s)?;
     initialise(&mut s);
-    save(b"fresh", &s);
+    save(out, b"fresh", &s)?;
     run(&mut s, true);
-    save(b"running", &s);
+    save(out, b"running", &s)?;
     run(&mut s, false);
     s[15] = 1;
-    save(b"not sound", &s);
+    save(out, b"not sound", &s)
 }
 
 // ---- restore
@@ -147,22 +143,20 @@ fn fresh_record() -> [u8; 84] {
 }
 
 // The answer, and the words that changed.
-fn restore(s: &mut [u32; 1760], bytes: &[u8]) {
+fn restore(out: &mut impl Write, s: &mut [u32; 1760], bytes: &[u8]) -> io::Result<()> {
     let before = *s;
-    say_signed(calls::restore(s, bytes));
-    say_changed(s, &before);
-    say(b";");
+    say_signed(out, calls::restore(s, bytes))?;
+    say_changed(out, s, &before)?;
+    say(out, b";")
 }
 
 // A row is a length, a place, and the six bytes that stand from there on.
 fn replace(b: &mut [u8; 84], row: [u8; 8]) {
     let at = row[1] as usize;
-    let mut i: usize = 0;
-    while i < 6 {
+    for i in 0..6 {
         if at < 78 {
             b[at + i] = row[2 + i];
         }
-        i += 1;
     }
 }
 
@@ -173,33 +167,38 @@ fn edited(row: [u8; 8]) -> [u8; 84] {
 }
 
 // A restore of the first `length` bytes.
-fn restore_front(s: &mut [u32; 1760], b: &[u8], length: usize) {
+fn restore_front(
+    out: &mut impl Write,
+    s: &mut [u32; 1760],
+    b: &[u8],
+    length: usize,
+) -> io::Result<()> {
     if length <= b.len() {
-        restore(s, &b[..length]);
+        restore(out, s, &b[..length])?;
     }
+    Ok(())
 }
 
 // A restore of a row's edit of the fresh record into a fresh device.
-fn edit(row: [u8; 8]) {
+fn edit(out: &mut impl Write, row: [u8; 8]) -> io::Result<()> {
     let mut s = fresh(64);
     let b = edited(row);
-    restore_front(&mut s, &b, row[0] as usize);
+    restore_front(out, &mut s, &b, row[0] as usize)
 }
 
-fn each_edit(table: &[[u8; 8]]) {
-    let mut i: usize = 0;
-    while i < table.len() {
-        edit(table[i]);
-        i += 1;
+fn each_edit(out: &mut impl Write, table: &[[u8; 8]]) -> io::Result<()> {
+    for row in table {
+        edit(out, *row)?;
     }
+    Ok(())
 }
 
 // A line of edits.
-fn edits(name: &[u8], table: &[[u8; 8]]) {
-    say(name);
-    say(b":");
-    each_edit(table);
-    say(b"\n");
+fn edits(out: &mut impl Write, name: &[u8], table: &[[u8; 8]]) -> io::Result<()> {
+    say(out, name)?;
+    say(out, b":")?;
+    each_edit(out, table)?;
+    say(out, b"\n")
 }
 
 const WHOLE: [[u8; 8]; 5] = [
@@ -263,99 +262,108 @@ const ORDERS: [[u8; 8]; 7] = [
     [77, 70, 0x02, 0x03, 0x00, 0x00, 0x00, 0x02],
 ];
 
-fn whole() {
-    say(b"restore into a fresh device: the answer and the words changed\n");
+fn whole(out: &mut impl Write) -> io::Result<()> {
+    say(
+        out,
+        b"restore into a fresh device: the answer and the words changed\n",
+    )?;
     edits(
+        out,
         b"fresh; GICD CTLR 53 and STATUSR f; PMR 78 and CTLR 402; AP0R ffffffff; AP0R 400",
         &WHOLE,
-    );
+    )
 }
 
-fn broken() {
+fn broken(out: &mut impl Write) -> io::Result<()> {
     edits(
+        out,
         b"empty; a byte short; cut within CTLR; a byte follows",
         &CUT,
-    );
+    )?;
     edits(
+        out,
         b"version 80 00; 81 00; AP0R 80 00; ff ff ff ff 10; 80 80 80 80 80 01",
         &ILL_FORMED,
-    );
+    )
 }
 
-fn unread() {
-    edits(b"version 0; 2; count 60; 2 vCPUs; affinity 1", &HEADER);
+fn unread(out: &mut impl Write) -> io::Result<()> {
+    edits(out, b"version 0; 2; count 60; 2 vCPUs; affinity 1", &HEADER)?;
     edits(
+        out,
         b"GICD CTLR 54; STATUSR 10; IPRIORITYR 4; ICFGR 1; route 1000000",
         &SHARED,
-    );
+    )?;
     edits(
+        out,
         b"the line of SGI 0; PMR 4; CTLR 401; BPR0 1; BPR1 2; IGRPEN1 2",
         &OWN,
-    );
+    )
 }
 
-fn orders() {
+fn orders(out: &mut impl Write) -> io::Result<()> {
     edits(
+        out,
         b"version 2, a byte short; a byte follows; count 80 00; version 80 00, 2 vCPUs; BPR0 1, BPR1 80 00; AP0R 80 00, IGRPEN0 2; IGRPEN1 2, a byte follows",
         &ORDERS,
-    );
+    )
 }
 
 // No bytes, and the fresh record.
-fn restore_both(name: &[u8], s: &mut [u32; 1760]) {
-    say(name);
-    say(b":");
+fn restore_both(out: &mut impl Write, name: &[u8], s: &mut [u32; 1760]) -> io::Result<()> {
+    say(out, name)?;
+    say(out, b":")?;
     let b = fresh_record();
-    restore_front(s, &b, 0);
-    restore_front(s, &b, 76);
-    say(b"\n");
+    restore_front(out, s, &b, 0)?;
+    restore_front(out, s, &b, 76)?;
+    say(out, b"\n")
 }
 
-fn targets() {
-    say(b"restore of no bytes, and of the fresh record\n");
+fn targets(out: &mut impl Write) -> io::Result<()> {
+    say(out, b"restore of no bytes, and of the fresh record\n")?;
     let mut s = added(64);
-    restore_both(b"not initialised", &mut s);
+    restore_both(out, b"not initialised", &mut s)?;
     initialise(&mut s);
     run(&mut s, true);
-    restore_both(b"running", &mut s);
+    restore_both(out, b"running", &mut s)?;
     run(&mut s, false);
     line(&mut s, true);
-    restore_both(b"a line is high", &mut s);
+    restore_both(out, b"a line is high", &mut s)?;
     line(&mut s, false);
-    restore_both(b"it is low again", &mut s);
+    restore_both(out, b"it is low again", &mut s)?;
     s[15] = 1;
-    restore_both(b"not sound", &mut s);
+    restore_both(out, b"not sound", &mut s)?;
     s[15] = 0;
-    restore_both(b"sound again", &mut s);
+    restore_both(out, b"sound again", &mut s)?;
     let mut t = fresh(96);
-    restore_both(b"count 60", &mut t);
+    restore_both(out, b"count 60", &mut t)
 }
 
 // ---- round trips
 
 // A save's answer and a restore's, the words in which the second device differs from the first, and the record's bytes 6 to 27: the bank of SPI 2a.
-fn round_trip(name: &[u8], s: &[u32; 1760]) {
+fn round_trip(out: &mut impl Write, name: &[u8], s: &[u32; 1760]) -> io::Result<()> {
     let mut buf = [0u8; 96];
     let mut t = fresh(64);
     let mut result: i64 = 1;
     let front = calls::save(s, &mut buf, &mut result);
-    say(name);
-    say(b":");
-    say_signed(result);
-    say_signed(calls::restore(&mut t, front));
-    say_changed(&t, s);
-    say(b"; record");
-    say_bytes(&buf, 6, 28);
-    pending(&mut t);
+    say(out, name)?;
+    say(out, b":")?;
+    say_signed(out, result)?;
+    say_signed(out, calls::restore(&mut t, front))?;
+    say_changed(out, &t, s)?;
+    say(out, b"; record")?;
+    say_bytes(out, &buf, 6, 28)?;
+    pending(out, &mut t)
 }
 
 // ISPENDR of the SPIs 20-3f by attribute, and as the guest reads it.
-fn pending(s: &mut [u32; 1760]) {
-    say(b"; ISPENDR");
-    say_answer(calls::get_attribute(s, 1, 0x204));
+fn pending(out: &mut impl Write, s: &mut [u32; 1760]) -> io::Result<()> {
+    say(out, b"; ISPENDR")?;
+    say_answer(out, calls::get_attribute(s, 1, 0x204))?;
     run(s, true);
-    say_answer(calls::read_distributor(s, VcpuIndex(0), 0x204, 4));
-    say(b"\n");
+    say_answer(out, calls::read_distributor(s, VcpuIndex(0), 0x204, 4))?;
+    say(out, b"\n")
 }
 
 // A word of the distributor by attribute.
@@ -374,38 +382,40 @@ fn raised(config: u64) -> [u32; 1760] {
 }
 
 // The line of a level SPI makes it pending and sets no latch: the latch saved is 0. That of an edge SPI latched it; the latch once cleared, restoring the line latches nothing.
-fn lines() {
+fn lines(out: &mut impl Write) -> io::Result<()> {
     say(
+        out,
         b"SPI 2a, its line high: saved, restored, the words that differ; its bank in the record; ISPENDR by attribute and by the guest\n",
-    );
+    )?;
     let mut s = raised(0);
-    round_trip(b"level, latch clear", &s);
+    round_trip(out, b"level, latch clear", &s)?;
     put(&mut s, 0x204, 0x400);
-    round_trip(b"level, latch set", &s);
+    round_trip(out, b"level, latch set", &s)?;
     let mut e = raised(0x20_0000);
-    round_trip(b"edge, latch set", &e);
+    round_trip(out, b"edge, latch set", &e)?;
     put(&mut e, 0x204, 0);
-    round_trip(b"edge, latch clear", &e);
+    round_trip(out, b"edge, latch clear", &e)
 }
 
 // Count 1024: how long the fresh record is, and its first bytes.
-fn large() {
+fn large(out: &mut impl Write) -> io::Result<()> {
     let s = fresh(1024);
     let mut buf = [0u8; 1500];
-    say(b"count 400:");
-    say_signed(calls::fill(&s, &mut buf));
-    say(b";");
-    say_bytes(&buf, 0, 7);
-    say(b"\n");
+    say(out, b"count 400:")?;
+    say_signed(out, calls::fill(&s, &mut buf))?;
+    say(out, b";")?;
+    say_bytes(out, &buf, 0, 7)?;
+    say(out, b"\n")
 }
 
-fn main() {
-    saves();
-    whole();
-    broken();
-    unread();
-    orders();
-    targets();
-    lines();
-    large();
+fn main(rt: HostRuntime) -> io::Result<()> {
+    let mut out = rt.stdout();
+    saves(&mut out)?;
+    whole(&mut out)?;
+    broken(&mut out)?;
+    unread(&mut out)?;
+    orders(&mut out)?;
+    targets(&mut out)?;
+    lines(&mut out)?;
+    large(&mut out)
 }

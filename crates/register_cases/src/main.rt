@@ -3,23 +3,26 @@
 
 use report::{say, say_answer, say_changed, say_hex};
 use state::{Mpidr, VcpuIndex};
+use std::io;
+use std::io::Write;
 
 // ---- printing
 
 // A refusal, where a write or a set has one.
-fn say_refusal(r: i64) {
+fn say_refusal(out: &mut impl Write, r: i64) -> io::Result<()> {
     if r != 0 {
-        say_answer(r);
+        say_answer(out, r)?;
     }
+    Ok(())
 }
 
 // A row's numbers.
-fn say_row(row: [u64; 4]) {
-    say_hex(row[0]);
-    say_hex(row[1]);
-    say_hex(row[2]);
-    say_hex(row[3]);
-    say(b":");
+fn say_row(out: &mut impl Write, row: [u64; 4]) -> io::Result<()> {
+    say_hex(out, row[0])?;
+    say_hex(out, row[1])?;
+    say_hex(out, row[2])?;
+    say_hex(out, row[3])?;
+    say(out, b":")
 }
 
 // ---- devices
@@ -189,100 +192,146 @@ const LINES: [[u64; 4]; 6] = [
 ];
 
 // A guest writes the row's words, and reads.
-fn guest_case(count: u64, at: Place, row: [u64; 4]) -> [u32; 1760] {
+fn guest_case(
+    out: &mut impl Write,
+    count: u64,
+    at: Place,
+    row: [u64; 4],
+) -> io::Result<[u32; 1760]> {
     let mut s = device(count);
     run(&mut s, true);
     write(&mut s, at, row[0], 4, row[1]);
-    say_refusal(write(&mut s, at, row[2], 4, row[3]));
-    say_answer(read(&s, at, row[2], 4));
+    say_refusal(out, write(&mut s, at, row[2], 4, row[3]))?;
+    say_answer(out, read(&s, at, row[2], 4))?;
     run(&mut s, false);
-    s
+    Ok(s)
 }
 
 // Attributes are set to the row's words, and got. `high` is an affinity in bits 63-32.
-fn attribute_case(count: u64, group: u64, high: u64, row: [u64; 4]) -> [u32; 1760] {
+fn attribute_case(
+    out: &mut impl Write,
+    count: u64,
+    group: u64,
+    high: u64,
+    row: [u64; 4],
+) -> io::Result<[u32; 1760]> {
     let mut s = device(count);
     calls::set_attribute(&mut s, group, high | row[0], row[1]);
-    say_refusal(calls::set_attribute(&mut s, group, high | row[2], row[3]));
-    say_answer(calls::get_attribute(&s, group, high | row[2]));
-    s
+    say_refusal(
+        out,
+        calls::set_attribute(&mut s, group, high | row[2], row[3]),
+    )?;
+    say_answer(out, calls::get_attribute(&s, group, high | row[2]))?;
+    Ok(s)
 }
 
 // At counts 64, 96, 992 and 1024, with the words changed at 1024: in group 1 first by a guest, and by attribute.
-fn counts_row(group: u64, row: [u64; 4]) {
+fn counts_row(out: &mut impl Write, group: u64, row: [u64; 4]) -> io::Result<()> {
     let before = device(1024);
     if group == 1 {
-        guest_case(64, Place::Distributor, row);
-        guest_case(96, Place::Distributor, row);
-        guest_case(992, Place::Distributor, row);
-        let s = guest_case(1024, Place::Distributor, row);
-        say_changed(&s, &before);
-        say(b";");
+        guest_case(out, 64, Place::Distributor, row)?;
+        guest_case(out, 96, Place::Distributor, row)?;
+        guest_case(out, 992, Place::Distributor, row)?;
+        let s = guest_case(out, 1024, Place::Distributor, row)?;
+        say_changed(out, &s, &before)?;
+        say(out, b";")?;
     }
-    attribute_case(64, group, 0, row);
-    attribute_case(96, group, 0, row);
-    attribute_case(992, group, 0, row);
-    let s = attribute_case(1024, group, 0, row);
-    say_changed(&s, &before);
+    attribute_case(out, 64, group, 0, row)?;
+    attribute_case(out, 96, group, 0, row)?;
+    attribute_case(out, 992, group, 0, row)?;
+    let s = attribute_case(out, 1024, group, 0, row)?;
+    say_changed(out, &s, &before)
 }
 
 // In the frames 0, 1 and 2, by a guest and by attribute, with the words changed.
-fn frame_row(name: &[u8], row: [u64; 4]) {
+fn frame_row(out: &mut impl Write, name: &[u8], row: [u64; 4]) -> io::Result<()> {
     let before = device(64);
-    say(name);
-    say_row(row);
-    let g0 = guest_case(64, Place::Frame(0), row);
-    say_changed(&g0, &before);
-    say(b",");
-    let a0 = attribute_case(64, 5, 0x1_0000_0000, row);
-    say_changed(&a0, &before);
-    say(b";");
-    let g1 = guest_case(64, Place::Frame(1), row);
-    say_changed(&g1, &before);
-    say(b",");
-    let a1 = attribute_case(64, 5, 0, row);
-    say_changed(&a1, &before);
-    say(b";");
-    let g2 = guest_case(64, Place::Frame(2), row);
-    say_changed(&g2, &before);
-    say(b",");
-    let a2 = attribute_case(64, 5, 0x00ab_cd0f_0000_0000, row);
-    say_changed(&a2, &before);
-    say(b"\n");
+    say(out, name)?;
+    say_row(out, row)?;
+    let g0 = guest_case(out, 64, Place::Frame(0), row)?;
+    say_changed(out, &g0, &before)?;
+    say(out, b",")?;
+    let a0 = attribute_case(out, 64, 5, 0x1_0000_0000, row)?;
+    say_changed(out, &a0, &before)?;
+    say(out, b";")?;
+    let g1 = guest_case(out, 64, Place::Frame(1), row)?;
+    say_changed(out, &g1, &before)?;
+    say(out, b",")?;
+    let a1 = attribute_case(out, 64, 5, 0, row)?;
+    say_changed(out, &a1, &before)?;
+    say(out, b";")?;
+    let g2 = guest_case(out, 64, Place::Frame(2), row)?;
+    say_changed(out, &g2, &before)?;
+    say(out, b",")?;
+    let a2 = attribute_case(out, 64, 5, 0x00ab_cd0f_0000_0000, row)?;
+    say_changed(out, &a2, &before)?;
+    say(out, b"\n")
 }
 
-fn frames() {
+fn frames(out: &mut impl Write) -> io::Result<()> {
     say(
+        out,
         b"a frame's words: by a guest and by attribute, in the frames 0, 1 and 2, with the words changed\n",
-    );
-    frame_row(b"CTLR", [0x0, 0x0, 0x0, 0xffff_ffff]);
-    frame_row(b"IIDR", [0x4, 0x0, 0x4, 0x0100_1000]);
-    frame_row(b"IIDR", [0x4, 0x0100_1000, 0x4, 0x0100_1001]);
-    frame_row(b"TYPER low", [0x8, 0xffff_ffff, 0x8, 0x0]);
-    frame_row(b"TYPER high", [0xc, 0xffff_ffff, 0xc, 0x0]);
-    frame_row(b"STATUSR", [0x10, 0x1, 0x10, 0x4]);
-    frame_row(b"WAKER", [0x14, 0x0, 0x14, 0xffff_ffff]);
-    frame_row(b"IGROUPR", [0x1_0080, 0xffff_0000, 0x1_0080, 0xff00_ff00]);
-    frame_row(b"ISENABLER", [0x1_0100, 0xffff_0000, 0x1_0100, 0xff00_ff00]);
-    frame_row(b"ICENABLER", [0x1_0100, 0xffff_0000, 0x1_0180, 0x00ff_00ff]);
-    frame_row(b"ISPENDR", [0x1_0200, 0xffff_0000, 0x1_0200, 0xff00_ff00]);
-    frame_row(b"ICPENDR", [0x1_0200, 0xffff_0000, 0x1_0280, 0x00ff_00ff]);
-    frame_row(b"ISACTIVER", [0x1_0300, 0xffff_0000, 0x1_0300, 0xff00_ff00]);
-    frame_row(b"ICACTIVER", [0x1_0300, 0xffff_0000, 0x1_0380, 0x00ff_00ff]);
+    )?;
+    frame_row(out, b"CTLR", [0x0, 0x0, 0x0, 0xffff_ffff])?;
+    frame_row(out, b"IIDR", [0x4, 0x0, 0x4, 0x0100_1000])?;
+    frame_row(out, b"IIDR", [0x4, 0x0100_1000, 0x4, 0x0100_1001])?;
+    frame_row(out, b"TYPER low", [0x8, 0xffff_ffff, 0x8, 0x0])?;
+    frame_row(out, b"TYPER high", [0xc, 0xffff_ffff, 0xc, 0x0])?;
+    frame_row(out, b"STATUSR", [0x10, 0x1, 0x10, 0x4])?;
+    frame_row(out, b"WAKER", [0x14, 0x0, 0x14, 0xffff_ffff])?;
     frame_row(
+        out,
+        b"IGROUPR",
+        [0x1_0080, 0xffff_0000, 0x1_0080, 0xff00_ff00],
+    )?;
+    frame_row(
+        out,
+        b"ISENABLER",
+        [0x1_0100, 0xffff_0000, 0x1_0100, 0xff00_ff00],
+    )?;
+    frame_row(
+        out,
+        b"ICENABLER",
+        [0x1_0100, 0xffff_0000, 0x1_0180, 0x00ff_00ff],
+    )?;
+    frame_row(
+        out,
+        b"ISPENDR",
+        [0x1_0200, 0xffff_0000, 0x1_0200, 0xff00_ff00],
+    )?;
+    frame_row(
+        out,
+        b"ICPENDR",
+        [0x1_0200, 0xffff_0000, 0x1_0280, 0x00ff_00ff],
+    )?;
+    frame_row(
+        out,
+        b"ISACTIVER",
+        [0x1_0300, 0xffff_0000, 0x1_0300, 0xff00_ff00],
+    )?;
+    frame_row(
+        out,
+        b"ICACTIVER",
+        [0x1_0300, 0xffff_0000, 0x1_0380, 0x00ff_00ff],
+    )?;
+    frame_row(
+        out,
         b"IPRIORITYR",
         [0x1_0400, 0x1234_5678, 0x1_0400, 0xfedc_ba98],
-    );
+    )?;
     frame_row(
+        out,
         b"IPRIORITYR",
         [0x1_0410, 0x1234_5678, 0x1_0410, 0xfedc_ba98],
-    );
+    )?;
     frame_row(
+        out,
         b"IPRIORITYR",
         [0x1_041c, 0x1234_5678, 0x1_041c, 0xfedc_ba98],
-    );
-    frame_row(b"ICFGR", [0x1_0c00, 0xffff_ffff, 0x1_0c00, 0x0]);
-    frame_row(b"ICFGR", [0x1_0c04, 0x0, 0x1_0c04, 0xffff_ffff]);
+    )?;
+    frame_row(out, b"ICFGR", [0x1_0c00, 0xffff_ffff, 0x1_0c00, 0x0])?;
+    frame_row(out, b"ICFGR", [0x1_0c04, 0x0, 0x1_0c04, 0xffff_ffff])
 }
 
 // ---- other sizes and offsets
@@ -371,23 +420,34 @@ const FRAME_UNLISTED: [[u64; 4]; 11] = [
 ];
 
 // What the second write reads back as, the first word after it, and the words that the second changed; then, where it is a word, its attribute got, and set to that value.
-fn access_row(count: u64, at: Place, group: u64, high: u64, row: [u64; 4]) {
+fn access_row(
+    out: &mut impl Write,
+    count: u64,
+    at: Place,
+    group: u64,
+    high: u64,
+    row: [u64; 4],
+) -> io::Result<()> {
     let mut s = device(count);
     run(&mut s, true);
     write(&mut s, at, row[0], 4, 0x1020_3043);
     let before = s;
-    say_refusal(write(&mut s, at, row[1], row[2], row[3]));
-    say_answer(read(&s, at, row[1], row[2]));
-    say_answer(read(&s, at, row[0], 4));
-    say_changed(&s, &before);
+    say_refusal(out, write(&mut s, at, row[1], row[2], row[3]))?;
+    say_answer(out, read(&s, at, row[1], row[2]))?;
+    say_answer(out, read(&s, at, row[0], 4))?;
+    say_changed(out, &s, &before)?;
     run(&mut s, false);
     if (row[2] == 4) & (row[1] < 0x1_0000_0000) {
         let after = s;
-        say(b";");
-        say_answer(calls::get_attribute(&s, group, high | row[1]));
-        say_answer(calls::set_attribute(&mut s, group, high | row[1], row[3]));
-        say_changed(&s, &after);
+        say(out, b";")?;
+        say_answer(out, calls::get_attribute(&s, group, high | row[1]))?;
+        say_answer(
+            out,
+            calls::set_attribute(&mut s, group, high | row[1], row[3]),
+        )?;
+        say_changed(out, &s, &after)?;
     }
+    Ok(())
 }
 
 // ---- system registers by attribute
@@ -416,15 +476,15 @@ const SYSTEM: [[u64; 4]; 19] = [
 ];
 
 // What the first value reads back as; the answer to the second, what is read then, and the words that it changed.
-fn system_row(row: [u64; 4]) {
+fn system_row(out: &mut impl Write, row: [u64; 4]) -> io::Result<()> {
     let mut s = device(64);
     let number = (row[0] << 32) | row[1];
-    say_refusal(calls::set_attribute(&mut s, 6, number, row[2]));
+    say_refusal(out, calls::set_attribute(&mut s, 6, number, row[2]))?;
     let before = s;
-    say_answer(calls::get_attribute(&s, 6, number));
-    say_answer(calls::set_attribute(&mut s, 6, number, row[3]));
-    say_answer(calls::get_attribute(&s, 6, number));
-    say_changed(&s, &before);
+    say_answer(out, calls::get_attribute(&s, 6, number))?;
+    say_answer(out, calls::set_attribute(&mut s, 6, number, row[3]))?;
+    say_answer(out, calls::get_attribute(&s, 6, number))?;
+    say_changed(out, &s, &before)
 }
 
 // ---- refusals
@@ -543,75 +603,75 @@ enum Kind {
 }
 
 // What one device answers to such a row, and the words changed.
-fn phase_case(kind: Kind, state: [u32; 1760], row: [u64; 4]) {
+fn phase_case(
+    out: &mut impl Write,
+    kind: Kind,
+    state: [u32; 1760],
+    row: [u64; 4],
+) -> io::Result<()> {
     let mut s = state;
     match kind {
         Kind::Guest => {
             let v = VcpuIndex(row[0] as usize);
             let frame = VcpuIndex(row[1] as usize);
-            say_answer(calls::read_distributor(&s, v, row[2], 4));
-            say_answer(calls::write_distributor(&mut s, v, row[2], 4, row[3]));
-            say_answer(calls::read_frame(&s, v, frame, row[2], 4));
-            say_answer(calls::write_frame(&mut s, v, frame, row[2], 4, row[3]));
+            say_answer(out, calls::read_distributor(&s, v, row[2], 4))?;
+            say_answer(out, calls::write_distributor(&mut s, v, row[2], 4, row[3]))?;
+            say_answer(out, calls::read_frame(&s, v, frame, row[2], 4))?;
+            say_answer(out, calls::write_frame(&mut s, v, frame, row[2], 4, row[3]))?;
         }
         Kind::Attributes => {
             let number = (row[1] << 32) | row[2];
-            say_answer(calls::get_attribute(&s, row[0], number));
-            say_answer(calls::set_attribute(&mut s, row[0], number, row[3]));
+            say_answer(out, calls::get_attribute(&s, row[0], number))?;
+            say_answer(out, calls::set_attribute(&mut s, row[0], number, row[3]))?;
         }
         _ => {
-            say_answer(calls::change_line(
-                &mut s,
-                VcpuIndex(row[0] as usize),
-                row[1] as usize,
-                true,
-            ));
-            say_answer(calls::change_line(
-                &mut s,
-                VcpuIndex(row[2] as usize),
-                row[3] as usize,
-                true,
-            ));
+            say_answer(
+                out,
+                calls::change_line(&mut s, VcpuIndex(row[0] as usize), row[1] as usize, true),
+            )?;
+            say_answer(
+                out,
+                calls::change_line(&mut s, VcpuIndex(row[2] as usize), row[3] as usize, true),
+            )?;
         }
     }
-    say_changed(&s, &state);
+    say_changed(out, &s, &state)
 }
 
 // ---- the rows of a table
 
 // A line: the name, the row, and its answers. The four devices: not sound; not initialised; of count 1024, and vCPU 1 runs; stopped.
-fn row_case(name: &[u8], kind: Kind, row: [u64; 4]) {
-    say(name);
-    say_row(row);
+fn row_case(out: &mut impl Write, name: &[u8], kind: Kind, row: [u64; 4]) -> io::Result<()> {
+    say(out, name)?;
+    say_row(out, row)?;
     match kind {
-        Kind::Distributor => counts_row(1, row),
-        Kind::Lines => counts_row(7, row),
-        Kind::Accesses => access_row(1024, Place::Distributor, 1, 0, row),
-        Kind::FrameAccesses => access_row(64, Place::Frame(2), 5, 0x00ab_cd0f_0000_0000, row),
-        Kind::System => system_row(row),
+        Kind::Distributor => counts_row(out, 1, row)?,
+        Kind::Lines => counts_row(out, 7, row)?,
+        Kind::Accesses => access_row(out, 1024, Place::Distributor, 1, 0, row)?,
+        Kind::FrameAccesses => access_row(out, 64, Place::Frame(2), 5, 0x00ab_cd0f_0000_0000, row)?,
+        Kind::System => system_row(out, row)?,
         _ => {
             let mut unsound = device(64);
             unsound[15] = 1;
-            phase_case(kind, unsound, row);
-            say(b";");
-            phase_case(kind, added(64), row);
-            say(b";");
+            phase_case(out, kind, unsound, row)?;
+            say(out, b";")?;
+            phase_case(out, kind, added(64), row)?;
+            say(out, b";")?;
             let mut running = device(1024);
             run(&mut running, true);
-            phase_case(kind, running, row);
-            say(b";");
-            phase_case(kind, device(64), row);
+            phase_case(out, kind, running, row)?;
+            say(out, b";")?;
+            phase_case(out, kind, device(64), row)?;
         }
     }
-    say(b"\n");
+    say(out, b"\n")
 }
 
-fn rows(name: &[u8], kind: Kind, table: &[[u64; 4]]) {
-    let mut i: usize = 0;
-    while i < table.len() {
-        row_case(name, kind, table[i]);
-        i += 1;
+fn rows(out: &mut impl Write, name: &[u8], kind: Kind, table: &[[u64; 4]]) -> io::Result<()> {
+    for row in table {
+        row_case(out, name, kind, *row)?;
     }
+    Ok(())
 }
 
 // ---- lines
@@ -625,7 +685,7 @@ enum Call {
 }
 
 // The call's answer; then of the SPIs 32 to 63 the lines, the latches, and what a guest reads of ISPENDR and of ICPENDR.
-fn step(s: &mut [u32; 1760], name: &[u8], call: Call) {
+fn step(out: &mut impl Write, s: &mut [u32; 1760], name: &[u8], call: Call) -> io::Result<()> {
     run(s, true);
     let r = match call {
         Call::Line(id, level) => calls::change_line(s, VcpuIndex(0), id, level),
@@ -636,166 +696,234 @@ fn step(s: &mut [u32; 1760], name: &[u8], call: Call) {
         }
     };
     run(s, false);
-    say(name);
-    say(b":");
-    say_answer(r);
-    say_answer(calls::get_attribute(s, 7, 0x20));
-    say_answer(calls::get_attribute(s, 1, 0x204));
+    say(out, name)?;
+    say(out, b":")?;
+    say_answer(out, r)?;
+    say_answer(out, calls::get_attribute(s, 7, 0x20))?;
+    say_answer(out, calls::get_attribute(s, 1, 0x204))?;
     run(s, true);
-    say_answer(read(s, Place::Distributor, 0x204, 4));
-    say_answer(read(s, Place::Distributor, 0x284, 4));
+    say_answer(out, read(s, Place::Distributor, 0x204, 4))?;
+    say_answer(out, read(s, Place::Distributor, 0x284, 4))?;
     run(s, false);
-    say(b"\n");
+    say(out, b"\n")
 }
 
 // SPI 40, which is bit 8 of these words.
-fn level_and_edge(s: &mut [u32; 1760]) {
-    step(s, b"P3: a level SPI's line up", Call::Line(40, true));
-    step(s, b"P3: pending after ICPENDR", Call::Write(0x284, 0x100));
-    step(s, b"level: ISPENDR latches it", Call::Write(0x204, 0x100));
-    step(s, b"level: line down, latched", Call::Line(40, false));
-    step(s, b"level: ICPENDR", Call::Write(0x284, 0x100));
-    step(s, b"level: line up", Call::Line(40, true));
-    step(s, b"level: line down", Call::Line(40, false));
-    step(s, b"made edge", Call::Write(0xc08, 0x20000));
-    step(s, b"edge: line up latches", Call::Line(40, true));
-    step(s, b"edge: ICPENDR, line high", Call::Write(0x284, 0x100));
-    step(s, b"edge: line up again", Call::Line(40, true));
-    step(s, b"edge: line down", Call::Line(40, false));
-    step(s, b"edge: line down again", Call::Line(40, false));
-    step(s, b"edge: line up", Call::Line(40, true));
-    step(s, b"edge: line down, latched", Call::Line(40, false));
+fn level_and_edge(out: &mut impl Write, s: &mut [u32; 1760]) -> io::Result<()> {
+    step(out, s, b"P3: a level SPI's line up", Call::Line(40, true))?;
+    step(
+        out,
+        s,
+        b"P3: pending after ICPENDR",
+        Call::Write(0x284, 0x100),
+    )?;
+    step(
+        out,
+        s,
+        b"level: ISPENDR latches it",
+        Call::Write(0x204, 0x100),
+    )?;
+    step(out, s, b"level: line down, latched", Call::Line(40, false))?;
+    step(out, s, b"level: ICPENDR", Call::Write(0x284, 0x100))?;
+    step(out, s, b"level: line up", Call::Line(40, true))?;
+    step(out, s, b"level: line down", Call::Line(40, false))?;
+    step(out, s, b"made edge", Call::Write(0xc08, 0x20000))?;
+    step(out, s, b"edge: line up latches", Call::Line(40, true))?;
+    step(
+        out,
+        s,
+        b"edge: ICPENDR, line high",
+        Call::Write(0x284, 0x100),
+    )?;
+    step(out, s, b"edge: line up again", Call::Line(40, true))?;
+    step(out, s, b"edge: line down", Call::Line(40, false))?;
+    step(out, s, b"edge: line down again", Call::Line(40, false))?;
+    step(out, s, b"edge: line up", Call::Line(40, true))?;
+    step(out, s, b"edge: line down, latched", Call::Line(40, false))
 }
 
 // SPI 57, which is bit 25: its edge flag changes while the line is high; then group 7.
-fn flags_and_lines(s: &mut [u32; 1760]) {
-    step(s, b"level: line up", Call::Line(57, true));
-    step(s, b"line high: made edge", Call::Write(0xc0c, 0x80000));
-    step(s, b"edge: line up again", Call::Line(57, true));
-    step(s, b"line high: made level", Call::Write(0xc0c, 0x40000));
-    step(s, b"made edge by attribute", Call::Set(1, 0xc0c, 0xc0000));
-    step(s, b"edge: line down", Call::Line(57, false));
-    step(s, b"edge: line up latches", Call::Line(57, true));
-    step(s, b"level by attribute, latched", Call::Set(1, 0xc0c, 0x0));
-    step(s, b"level: line down, latched", Call::Line(57, false));
-    step(s, b"latch cleared by attribute", Call::Set(1, 0x204, 0x0));
-    step(s, b"made edge again", Call::Write(0xc0c, 0x80000));
-    step(s, b"group 7: all, no latch", Call::Set(7, 0x20, 0xffffffff));
-    step(s, b"group 7: others", Call::Set(7, 0x20, 0xf00000f));
-    step(s, b"edge: line down", Call::Line(57, false));
-    step(s, b"group 7: that line", Call::Set(7, 0x20, 0x2000000));
-    step(s, b"latch by attribute", Call::Set(1, 0x204, 0x2000000));
-    step(s, b"group 7: no line, latch kept", Call::Set(7, 0x20, 0x0));
+fn flags_and_lines(out: &mut impl Write, s: &mut [u32; 1760]) -> io::Result<()> {
+    step(out, s, b"level: line up", Call::Line(57, true))?;
+    step(out, s, b"line high: made edge", Call::Write(0xc0c, 0x80000))?;
+    step(out, s, b"edge: line up again", Call::Line(57, true))?;
+    step(
+        out,
+        s,
+        b"line high: made level",
+        Call::Write(0xc0c, 0x40000),
+    )?;
+    step(
+        out,
+        s,
+        b"made edge by attribute",
+        Call::Set(1, 0xc0c, 0xc0000),
+    )?;
+    step(out, s, b"edge: line down", Call::Line(57, false))?;
+    step(out, s, b"edge: line up latches", Call::Line(57, true))?;
+    step(
+        out,
+        s,
+        b"level by attribute, latched",
+        Call::Set(1, 0xc0c, 0x0),
+    )?;
+    step(out, s, b"level: line down, latched", Call::Line(57, false))?;
+    step(
+        out,
+        s,
+        b"latch cleared by attribute",
+        Call::Set(1, 0x204, 0x0),
+    )?;
+    step(out, s, b"made edge again", Call::Write(0xc0c, 0x80000))?;
+    step(
+        out,
+        s,
+        b"group 7: all, no latch",
+        Call::Set(7, 0x20, 0xffffffff),
+    )?;
+    step(out, s, b"group 7: others", Call::Set(7, 0x20, 0xf00000f))?;
+    step(out, s, b"edge: line down", Call::Line(57, false))?;
+    step(out, s, b"group 7: that line", Call::Set(7, 0x20, 0x2000000))?;
+    step(
+        out,
+        s,
+        b"latch by attribute",
+        Call::Set(1, 0x204, 0x2000000),
+    )?;
+    step(
+        out,
+        s,
+        b"group 7: no line, latch kept",
+        Call::Set(7, 0x20, 0x0),
+    )
 }
 
 // The answer of a call; then of the three vCPUs the lines, the latches, and what a guest reads as pending.
-fn say_private(s: &mut [u32], name: &[u8], r: i64) {
-    say(name);
-    say(b":");
-    say_answer(r);
-    say_answer(calls::get_attribute(s, 7, 0x1_0000_0000));
-    say_answer(calls::get_attribute(s, 7, 0x0));
-    say_answer(calls::get_attribute(s, 7, 0x00ab_cd0f_0000_0000));
-    say(b";");
-    say_answer(calls::get_attribute(s, 5, 0x1_0001_0200));
-    say_answer(calls::get_attribute(s, 5, 0x1_0200));
-    say_answer(calls::get_attribute(s, 5, 0x00ab_cd0f_0001_0200));
-    say(b";");
+fn say_private(out: &mut impl Write, s: &mut [u32], name: &[u8], r: i64) -> io::Result<()> {
+    say(out, name)?;
+    say(out, b":")?;
+    say_answer(out, r)?;
+    say_answer(out, calls::get_attribute(s, 7, 0x1_0000_0000))?;
+    say_answer(out, calls::get_attribute(s, 7, 0x0))?;
+    say_answer(out, calls::get_attribute(s, 7, 0x00ab_cd0f_0000_0000))?;
+    say(out, b";")?;
+    say_answer(out, calls::get_attribute(s, 5, 0x1_0001_0200))?;
+    say_answer(out, calls::get_attribute(s, 5, 0x1_0200))?;
+    say_answer(out, calls::get_attribute(s, 5, 0x00ab_cd0f_0001_0200))?;
+    say(out, b";")?;
     run(s, true);
-    say_answer(read(s, Place::Frame(0), 0x1_0200, 4));
-    say_answer(read(s, Place::Frame(1), 0x1_0200, 4));
-    say_answer(read(s, Place::Frame(2), 0x1_0200, 4));
+    say_answer(out, read(s, Place::Frame(0), 0x1_0200, 4))?;
+    say_answer(out, read(s, Place::Frame(1), 0x1_0200, 4))?;
+    say_answer(out, read(s, Place::Frame(2), 0x1_0200, 4))?;
     run(s, false);
-    say(b"\n");
+    say(out, b"\n")
 }
 
-fn private_lines() {
+fn private_lines(out: &mut impl Write) -> io::Result<()> {
     let mut s = device(64);
     let up = calls::change_line(&mut s, VcpuIndex(1), 20, true);
-    say_private(&mut s, b"PPI 20 of vCPU 1, line up", up);
+    say_private(out, &mut s, b"PPI 20 of vCPU 1, line up", up)?;
     run(&mut s, true);
     let clear = write(&mut s, Place::Frame(1), 0x1_0280, 4, 0xffff_ffff);
     run(&mut s, false);
-    say_private(&mut s, b"ICPENDR leaves it pending", clear);
+    say_private(out, &mut s, b"ICPENDR leaves it pending", clear)?;
     let lines = calls::set_attribute(&mut s, 7, 0x00ab_cd0f_0000_0000, 0xffff_ffff);
-    say_private(&mut s, b"group 7 of vCPU 2, SGIs have no line", lines);
+    say_private(out, &mut s, b"group 7 of vCPU 2, SGIs have no line", lines)?;
     let latch = calls::set_attribute(&mut s, 5, 0x1_0001_0200, 0xff00_00ff);
-    say_private(&mut s, b"latches of vCPU 0 by attribute", latch);
+    say_private(out, &mut s, b"latches of vCPU 0 by attribute", latch)?;
     let down = calls::change_line(&mut s, VcpuIndex(1), 20, false);
-    say_private(&mut s, b"PPI 20 of vCPU 1, line down", down);
+    say_private(out, &mut s, b"PPI 20 of vCPU 1, line down", down)?;
     let last = calls::set_running(&mut s, VcpuIndex(2), true);
-    say_private(&mut s, b"vCPU 2 runs, attributes are refused", last);
+    say_private(out, &mut s, b"vCPU 2 runs, attributes are refused", last)?;
     calls::set_running(&mut s, VcpuIndex(2), false);
     let first = calls::set_running(&mut s, VcpuIndex(0), true);
-    say_private(&mut s, b"vCPU 0 runs, attributes are refused", first);
+    say_private(out, &mut s, b"vCPU 0 runs, attributes are refused", first)
 }
 
 // ---- the program
 
-fn words() {
+fn words(out: &mut impl Write) -> io::Result<()> {
     say(
+        out,
         b"words of the distributor: by a guest at counts 64, 96, 992 and 1024, and the words changed at 1024; the same by attribute\n",
-    );
-    rows(b"CTLR", Kind::Distributor, &CTLR);
-    rows(b"P2: TYPER", Kind::Distributor, &TYPER);
-    rows(b"IIDR", Kind::Distributor, &IIDR);
-    rows(b"STATUSR", Kind::Distributor, &STATUSR);
-    rows(b"IGROUPR", Kind::Distributor, &IGROUPR);
-    rows(b"ISENABLER", Kind::Distributor, &ISENABLER);
-    rows(b"ICENABLER", Kind::Distributor, &ICENABLER);
-    rows(b"ISPENDR", Kind::Distributor, &ISPENDR);
-    rows(b"ICPENDR", Kind::Distributor, &ICPENDR);
-    rows(b"ISACTIVER", Kind::Distributor, &ISACTIVER);
-    rows(b"ICACTIVER", Kind::Distributor, &ICACTIVER);
+    )?;
+    rows(out, b"CTLR", Kind::Distributor, &CTLR)?;
+    rows(out, b"P2: TYPER", Kind::Distributor, &TYPER)?;
+    rows(out, b"IIDR", Kind::Distributor, &IIDR)?;
+    rows(out, b"STATUSR", Kind::Distributor, &STATUSR)?;
+    rows(out, b"IGROUPR", Kind::Distributor, &IGROUPR)?;
+    rows(out, b"ISENABLER", Kind::Distributor, &ISENABLER)?;
+    rows(out, b"ICENABLER", Kind::Distributor, &ICENABLER)?;
+    rows(out, b"ISPENDR", Kind::Distributor, &ISPENDR)?;
+    rows(out, b"ICPENDR", Kind::Distributor, &ICPENDR)?;
+    rows(out, b"ISACTIVER", Kind::Distributor, &ISACTIVER)?;
+    rows(out, b"ICACTIVER", Kind::Distributor, &ICACTIVER)
 }
 
-fn fields() {
-    rows(b"IPRIORITYR", Kind::Distributor, &IPRIORITYR);
-    rows(b"ICFGR", Kind::Distributor, &ICFGR);
-    rows(b"IROUTER", Kind::Distributor, &IROUTER);
-    say(b"group 7, by attribute alone\n");
-    rows(b"lines", Kind::Lines, &LINES);
+fn fields(out: &mut impl Write) -> io::Result<()> {
+    rows(out, b"IPRIORITYR", Kind::Distributor, &IPRIORITYR)?;
+    rows(out, b"ICFGR", Kind::Distributor, &ICFGR)?;
+    rows(out, b"IROUTER", Kind::Distributor, &IROUTER)?;
+    say(out, b"group 7, by attribute alone\n")?;
+    rows(out, b"lines", Kind::Lines, &LINES)
 }
 
-fn accesses() {
+fn accesses(out: &mut impl Write) -> io::Result<()> {
     say(
+        out,
         b"other accesses, the word 10203043 written first: read back, that word, words changed; the attribute got and set\n",
-    );
-    rows(b"bytes", Kind::Accesses, &BYTES);
-    rows(b"sizes", Kind::Accesses, &SIZES);
-    rows(b"unlisted", Kind::Accesses, &UNLISTED);
-    rows(b"frame bytes", Kind::FrameAccesses, &FRAME_BYTES);
-    rows(b"frame sizes", Kind::FrameAccesses, &FRAME_SIZES);
-    rows(b"frame unlisted", Kind::FrameAccesses, &FRAME_UNLISTED);
+    )?;
+    rows(out, b"bytes", Kind::Accesses, &BYTES)?;
+    rows(out, b"sizes", Kind::Accesses, &SIZES)?;
+    rows(out, b"unlisted", Kind::Accesses, &UNLISTED)?;
+    rows(out, b"frame bytes", Kind::FrameAccesses, &FRAME_BYTES)?;
+    rows(out, b"frame sizes", Kind::FrameAccesses, &FRAME_SIZES)?;
+    rows(out, b"frame unlisted", Kind::FrameAccesses, &FRAME_UNLISTED)
 }
 
-fn refusals() {
-    say(b"refusals, each device not sound; not initialised; running; stopped\n");
-    rows(b"guest", Kind::Guest, &GUEST);
-    rows(b"attribute", Kind::Attributes, &ATTRIBUTES);
-    rows(b"line changes", Kind::Changes, &CHANGES);
+fn refusals(out: &mut impl Write) -> io::Result<()> {
+    say(
+        out,
+        b"refusals, each device not sound; not initialised; running; stopped\n",
+    )?;
+    rows(out, b"guest", Kind::Guest, &GUEST)?;
+    rows(out, b"attribute", Kind::Attributes, &ATTRIBUTES)?;
+    rows(out, b"line changes", Kind::Changes, &CHANGES)
 }
 
-fn system_registers() {
-    say(b"group 6: the first value read back; the second set, read back, words changed\n");
-    rows(b"system", Kind::System, &SYSTEM);
-    say(b"group 6 and unknown groups, each device not sound; not initialised; running; stopped\n");
-    rows(b"attribute", Kind::Attributes, &GROUP_6);
-    rows(b"attribute", Kind::Attributes, &UNKNOWN_GROUPS);
+fn system_registers(out: &mut impl Write) -> io::Result<()> {
+    say(
+        out,
+        b"group 6: the first value read back; the second set, read back, words changed\n",
+    )?;
+    rows(out, b"system", Kind::System, &SYSTEM)?;
+    say(
+        out,
+        b"group 6 and unknown groups, each device not sound; not initialised; running; stopped\n",
+    )?;
+    rows(out, b"attribute", Kind::Attributes, &GROUP_6)?;
+    rows(out, b"attribute", Kind::Attributes, &UNKNOWN_GROUPS)
 }
 
-fn main() {
-    words();
-    fields();
-    frames();
-    accesses();
-    refusals();
-    say(b"SPIs 40 and 57: answer, lines, latches, what a guest reads of ISPENDR and of ICPENDR\n");
+fn main(rt: HostRuntime) -> io::Result<()> {
+    let mut out = rt.stdout();
+    words(&mut out)?;
+    fields(&mut out)?;
+    frames(&mut out)?;
+    accesses(&mut out)?;
+    refusals(&mut out)?;
+    say(
+        &mut out,
+        b"SPIs 40 and 57: answer, lines, latches, what a guest reads of ISPENDR and of ICPENDR\n",
+    )?;
     let mut s = device(64);
-    level_and_edge(&mut s);
+    level_and_edge(&mut out, &mut s)?;
     let mut t = device(64);
-    flags_and_lines(&mut t);
-    say(b"PPIs: answer and lines, latches, pending of the three vCPUs\n");
-    private_lines();
-    system_registers();
+    flags_and_lines(&mut out, &mut t)?;
+    say(
+        &mut out,
+        b"PPIs: answer and lines, latches, pending of the three vCPUs\n",
+    )?;
+    private_lines(&mut out)?;
+    system_registers(&mut out)
 }

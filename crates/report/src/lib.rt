@@ -1,58 +1,50 @@
-// What the programs of cases print: texts, numbers, answers, and words of the state.
+// What the programs of cases print: texts, numbers, answers, and words of the state. Each function writes to `out`, and gives the error of a write that failed.
 #![tactic(auto)]
 
 use calls::magnitude;
-use libc::STDOUT_FILENO;
+use std::io;
+use std::io::Write;
 
-pub fn say(text: &[u8]) {
-    io::write_all(STDOUT_FILENO, text);
+pub fn say(out: &mut impl Write, text: &[u8]) -> io::Result<()> {
+    out.write_all(text)
 }
 
 // A number in decimal.
-pub fn say_decimal(n: u64) {
-    io::print_decimal(STDOUT_FILENO, n);
+pub fn say_decimal(out: &mut impl Write, n: u64) -> io::Result<()> {
+    write!(out, "{n}")
 }
 
 // A space, and a number in hex.
-pub fn say_hex(n: u64) {
-    say(b" ");
-    io::print_hex(STDOUT_FILENO, n, 1);
+pub fn say_hex(out: &mut impl Write, n: u64) -> io::Result<()> {
+    write!(out, " {n:x}")
 }
 
 // A space, and a refusal or an answer in decimal.
-pub fn say_signed(r: i64) {
-    if r < 0 {
-        say(b" -");
-    } else {
-        say(b" ");
-    }
-    say_decimal(magnitude(r));
+pub fn say_signed(out: &mut impl Write, r: i64) -> io::Result<()> {
+    write!(out, " {r}")
 }
 
 // A space, and the answer: what is read in hex, or the refusal in decimal.
-pub fn say_answer(r: i64) {
+pub fn say_answer(out: &mut impl Write, r: i64) -> io::Result<()> {
     if r < 0 {
-        say_signed(r);
+        say_signed(out, r)
     } else {
-        say_hex(magnitude(r));
+        say_hex(out, magnitude(r))
     }
 }
 
 // A word, where it changed, as its place in decimal and its value in hex.
-pub fn say_word(at: usize, word: u32, before: u32) {
-    if word != before {
-        say(b" ");
-        say_decimal(at as u64);
-        say(b":");
-        io::print_hex(STDOUT_FILENO, word as u64, 1);
+pub fn say_word(out: &mut impl Write, at: usize, word: u32, before: u32) -> io::Result<()> {
+    if word == before {
+        return Ok(());
     }
+    write!(out, " {at}:{word:x}")
 }
 
 // The words that changed.
-pub fn say_changed(s: &[u32; 1760], before: &[u32; 1760]) {
-    let mut i: usize = 0;
-    while i < 1760 {
-        say_word(i, s[i], before[i]);
-        i += 1;
+pub fn say_changed(out: &mut impl Write, s: &[u32; 1760], before: &[u32; 1760]) -> io::Result<()> {
+    for i in 0..1760 {
+        say_word(out, i, s[i], before[i])?;
     }
+    Ok(())
 }

@@ -1,8 +1,11 @@
-// A session of `drill`: lines read from one descriptor, their answers written to another. What is read and written no contract can say; the rest is in `console`.
+// A session of `drill`: lines read from one stream, their answers written to another. What is read and written no contract can say; the rest is in `console`.
 #![tactic(auto)]
 
-ghost use Rattle.std.specs.Prelude.{◌≡◌, [], ◌≤◌, length, take};
-ghost use Rattle.session.specs.Inputs.{begins, ReadOn};
+ghost use Rattle.std.specs.Prelude.{◌≡◌, [], ◌≤◌, length, take, IfOk, OnErr};
+ghost use Rattle.session.specs.Inputs.{begins, ReadOn, ReadOnTo};
+
+use std::io;
+use std::io::{ErrorKind, Read, Write};
 
 // Whether there is more to read, and how many bytes of the line begun are kept.
 #[derive(Clone, Copy)]
@@ -11,56 +14,77 @@ pub struct Turn {
     pub kept: usize,
 }
 
-// Reads once, runs the lines that end in what came, and writes their answers.
-fn read_some(from: i32, to: i32, state: &mut [u32], line: &mut [u8], kept: usize) -> Turn
+// Reads once, runs the lines that end in what came, and writes their answers. A read that a signal interrupts reads nothing.
+fn read_some<R: Read, W: Write>(
+    from: &mut R,
+    to: &mut W,
+    state: &mut [u32],
+    line: &mut [u8],
+    kept: usize,
+) -> io::Result<Turn>
     requires { (length line.old ≡ 81) × (kept ≤ 81) }
-    ensures read_on { ReadOn (begins state.old (take kept line.old)) state.new (take result.kept line.new) }
-    ensures kept_bound { result.kept ≤ 81 }
+    ensures read_on { IfOk result (λ turn. ReadOn (begins state.old (take kept line.old)) state.new (take turn.kept line.new)) }
+    ensures kept_bound { IfOk result (λ turn. turn.kept ≤ 81) }
+    ensures err { OnErr result (ReadOnTo (begins state.old (take kept line.old)) state.new line.new) }
 {
     let mut block = [0u8; 4096];
-    let got = libc::read(from, &mut block);
-    let n = io::count(got, &block);
+    let n = match from.read(&mut block) {
+        Ok(n) => n,
+        Err(e) => {
+            if e.kind() == ErrorKind::Interrupted {
+                return Ok(Turn {
+                    goes_on: true,
+                    kept,
+                });
+            }
+            return Err(e);
+        }
+    };
     if n == 0 {
-        return Turn {
+        return Ok(Turn {
             goes_on: false,
             kept,
-        };
+        });
     }
     let mut out = [0u8; 98304];
     let progress = console::run_block(state, line, kept, &block[..n], &mut out);
-    let printed = progress.printed;
-    let goes_on = io::write_all(to, &out[..printed]);
-    Turn {
-        goes_on,
+    to.write_all(&out[..progress.printed])?;
+    Ok(Turn {
+        goes_on: true,
         kept: progress.kept,
-    }
+    })
 }
 
-// Reads to the end of the input; gives how many bytes of a last line without its end are kept. A proved loop has to end, so its turns are counted down, from a number that no run uses up.
-fn read_all(from: i32, to: i32, state: &mut [u32], line: &mut [u8]) -> usize
+// Reads to the end of the input; gives how many bytes of a last line without its end are kept. A proved loop has to end, so its turns are counted, up to a number that no run uses up.
+fn read_all<R: Read, W: Write>(
+    from: &mut R,
+    to: &mut W,
+    state: &mut [u32],
+    line: &mut [u8],
+) -> io::Result<usize>
     requires { length line.old ≡ 81 }
-    ensures read_on { ReadOn (begins state.old []) state.new (take result line.new) }
-    ensures upper_bound { result ≤ 81 }
+    ensures read_on { IfOk result (λ kept. ReadOn (begins state.old []) state.new (take kept line.new)) }
+    ensures upper_bound { IfOk result (λ kept. kept ≤ 81) }
+    ensures err { OnErr result (ReadOnTo (begins state.old []) state.new line.new) }
 {
     let mut kept: usize = 0;
-    let mut goes_on = true;
-    let mut turns = u64::MAX;
-    while turns > 0 && goes_on {
-        let turn = read_some(from, to, state, line, kept);
+    for _ in 0..u64::MAX {
+        let turn = read_some(from, to, state, line, kept)?;
         kept = turn.kept;
-        goes_on = turn.goes_on;
-        turns -= 1;
+        if !turn.goes_on {
+            break;
+        }
     }
-    kept
+    Ok(kept)
 }
 
 // Makes a device and runs the lines of the input on it.
-pub fn run(from: i32, to: i32) {
+pub fn run<R: Read, W: Write>(from: &mut R, to: &mut W) -> io::Result<()> {
     let mut state = [0u32; 1760];
     calls::make(&mut state);
     let mut line = [0u8; 81];
-    let kept = read_all(from, to, &mut state, &mut line);
+    let kept = read_all(from, to, &mut state, &mut line)?;
     let mut out = [0u8; 24];
     let n = console::run_last(&mut state, &line, kept, &mut out);
-    io::write_all(to, &out[..n]);
+    to.write_all(&out[..n])
 }

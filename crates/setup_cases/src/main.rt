@@ -3,293 +3,304 @@
 
 use report::{say, say_decimal, say_hex, say_signed, say_word};
 use state::{Found, Mpidr, VcpuIndex};
+use std::io;
+use std::io::Write;
 
 // ---- printing
 
 // The words that are not zero, and the end of the line.
-fn say_words(s: &[u32]) {
-    let mut i: usize = 0;
-    while i < s.len() {
-        say_word(i, s[i], 0);
-        i += 1;
+fn say_words(out: &mut impl Write, s: &[u32]) -> io::Result<()> {
+    for (i, word) in s.iter().enumerate() {
+        say_word(out, i, *word, 0)?;
     }
-    say(b"\n");
+    say(out, b"\n")
 }
 
 // ---- P1
 
 // A new device, its count set to `value`, and the count that it then gives.
-fn count_case(value: u64) {
+fn count_case(out: &mut impl Write, value: u64) -> io::Result<()> {
     let mut s = [0u32; 1760];
-    say(b"count ");
-    say_decimal(value);
-    say(b":");
-    say_signed(calls::make(&mut s));
-    say_signed(calls::set_attribute(&mut s, 3, 0, value));
-    say_signed(calls::get_attribute(&s, 3, 0));
-    say(b"\n");
+    say(out, b"count ")?;
+    say_decimal(out, value)?;
+    say(out, b":")?;
+    say_signed(out, calls::make(&mut s))?;
+    say_signed(out, calls::set_attribute(&mut s, 3, 0, value))?;
+    say_signed(out, calls::get_attribute(&s, 3, 0))?;
+    say(out, b"\n")
 }
 
-fn counts() {
-    say(b"P1: make, set count, get count\n");
-    count_case(32);
-    count_case(100);
-    count_case(1056);
-    count_case(64);
-    count_case(1024);
-    say(b"other counts\n");
-    count_case(0);
-    count_case(65);
-    count_case(96);
-    count_case(992);
-    count_case(0x1_0000_0040);
-    count_case(0xffff_ffff_ffff_ffff);
+fn counts(out: &mut impl Write) -> io::Result<()> {
+    say(out, b"P1: make, set count, get count\n")?;
+    count_case(out, 32)?;
+    count_case(out, 100)?;
+    count_case(out, 1056)?;
+    count_case(out, 64)?;
+    count_case(out, 1024)?;
+    say(out, b"other counts\n")?;
+    count_case(out, 0)?;
+    count_case(out, 65)?;
+    count_case(out, 96)?;
+    count_case(out, 992)?;
+    count_case(out, 0x1_0000_0040)?;
+    count_case(out, 0xffff_ffff_ffff_ffff)
 }
 
 // ---- the order of count and vCPUs
 
-fn count_first() {
+fn count_first(out: &mut impl Write) -> io::Result<()> {
     let mut s = [0xffff_ffffu32; 1760];
-    say(b"count first:");
-    say_signed(calls::make(&mut s));
-    say_signed(calls::set_attribute(&mut s, 3, 7, 96));
-    say_add(&mut s, 0);
-    say_add(&mut s, 0x0012_340f);
-    say_signed(calls::set_attribute(&mut s, 4, 0, 5));
-    say_words(&s);
+    say(out, b"count first:")?;
+    say_signed(out, calls::make(&mut s))?;
+    say_signed(out, calls::set_attribute(&mut s, 3, 7, 96))?;
+    say_add(out, &mut s, 0)?;
+    say_add(out, &mut s, 0x0012_340f)?;
+    say_signed(out, calls::set_attribute(&mut s, 4, 0, 5))?;
+    say_words(out, &s)
 }
 
-fn vcpus_first() {
+fn vcpus_first(out: &mut impl Write) -> io::Result<()> {
     let mut s = [0u32; 1760];
-    say(b"vCPUs first:");
-    say_signed(calls::make(&mut s));
-    say_add(&mut s, 0);
-    say_add(&mut s, 0x0012_340f);
-    say_signed(calls::set_attribute(&mut s, 3, 0xffff_ffff_ffff_ffff, 96));
-    say_words(&s);
-    say(b"initialised:");
-    say_signed(calls::set_attribute(&mut s, 4, 0, 0));
-    say_words(&s);
+    say(out, b"vCPUs first:")?;
+    say_signed(out, calls::make(&mut s))?;
+    say_add(out, &mut s, 0)?;
+    say_add(out, &mut s, 0x0012_340f)?;
+    say_signed(
+        out,
+        calls::set_attribute(&mut s, 3, 0xffff_ffff_ffff_ffff, 96),
+    )?;
+    say_words(out, &s)?;
+    say(out, b"initialised:")?;
+    say_signed(out, calls::set_attribute(&mut s, 4, 0, 0))?;
+    say_words(out, &s)
 }
 
-fn no_count() {
+fn no_count(out: &mut impl Write) -> io::Result<()> {
     let mut s = [0u32; 1760];
-    say(b"no count:");
-    say_signed(calls::make(&mut s));
-    say_add(&mut s, 1);
-    say_signed(calls::get_attribute(&s, 3, 0));
-    say_signed(calls::set_attribute(&mut s, 4, 0, 0));
-    say_signed(calls::get_attribute(&s, 3, 0xffff_ffff));
-    say_words(&s);
-    say(b"again:");
-    say_signed(calls::set_attribute(&mut s, 4, 0, 0));
-    say_words(&s);
+    say(out, b"no count:")?;
+    say_signed(out, calls::make(&mut s))?;
+    say_add(out, &mut s, 1)?;
+    say_signed(out, calls::get_attribute(&s, 3, 0))?;
+    say_signed(out, calls::set_attribute(&mut s, 4, 0, 0))?;
+    say_signed(out, calls::get_attribute(&s, 3, 0xffff_ffff))?;
+    say_words(out, &s)?;
+    say(out, b"again:")?;
+    say_signed(out, calls::set_attribute(&mut s, 4, 0, 0))?;
+    say_words(out, &s)
 }
 
 // ---- refusals of each call, in their order
 
 // The answer to adding a vCPU.
-fn say_add(s: &mut [u32], mpidr: u32) {
-    say_signed(calls::add_vcpu(s, Mpidr(mpidr)));
+fn say_add(out: &mut impl Write, s: &mut [u32], mpidr: u32) -> io::Result<()> {
+    say_signed(out, calls::add_vcpu(s, Mpidr(mpidr)))
 }
 
 // The answer to marking a vCPU as running.
-fn say_run(s: &mut [u32], v: usize) {
-    say_signed(calls::set_running(s, VcpuIndex(v), true));
+fn say_run(out: &mut impl Write, s: &mut [u32], v: usize) -> io::Result<()> {
+    say_signed(out, calls::set_running(s, VcpuIndex(v), true))
 }
 
-fn nine_vcpus() {
+fn nine_vcpus(out: &mut impl Write) -> io::Result<()> {
     let mut s = [0u32; 1760];
-    say(b"nine vCPUs:");
-    say_signed(calls::make(&mut s));
-    say_add(&mut s, 0);
-    say_add(&mut s, 0x100);
-    say_add(&mut s, 0x200);
-    say_add(&mut s, 0x300);
-    say_add(&mut s, 0x400);
-    say_add(&mut s, 0x500);
-    say_add(&mut s, 0x600);
-    say_add(&mut s, 0x700);
-    say_add(&mut s, 0x800);
-    say(b"\nwith eight: bad, used, free:");
-    say_add(&mut s, 0x10);
-    say_add(&mut s, 0x700);
-    say_add(&mut s, 0x0f);
-    say_words(&s);
-    say(b"initialised, all running:");
-    say_signed(calls::set_attribute(&mut s, 4, 0, 0));
-    say_run(&mut s, 0);
-    say_run(&mut s, 1);
-    say_run(&mut s, 2);
-    say_run(&mut s, 3);
-    say_run(&mut s, 4);
-    say_run(&mut s, 5);
-    say_run(&mut s, 6);
-    say_run(&mut s, 7);
-    say_run(&mut s, 8);
-    say_words(&s);
+    say(out, b"nine vCPUs:")?;
+    say_signed(out, calls::make(&mut s))?;
+    say_add(out, &mut s, 0)?;
+    say_add(out, &mut s, 0x100)?;
+    say_add(out, &mut s, 0x200)?;
+    say_add(out, &mut s, 0x300)?;
+    say_add(out, &mut s, 0x400)?;
+    say_add(out, &mut s, 0x500)?;
+    say_add(out, &mut s, 0x600)?;
+    say_add(out, &mut s, 0x700)?;
+    say_add(out, &mut s, 0x800)?;
+    say(out, b"\nwith eight: bad, used, free:")?;
+    say_add(out, &mut s, 0x10)?;
+    say_add(out, &mut s, 0x700)?;
+    say_add(out, &mut s, 0x0f)?;
+    say_words(out, &s)?;
+    say(out, b"initialised, all running:")?;
+    say_signed(out, calls::set_attribute(&mut s, 4, 0, 0))?;
+    say_run(out, &mut s, 0)?;
+    say_run(out, &mut s, 1)?;
+    say_run(out, &mut s, 2)?;
+    say_run(out, &mut s, 3)?;
+    say_run(out, &mut s, 4)?;
+    say_run(out, &mut s, 5)?;
+    say_run(out, &mut s, 6)?;
+    say_run(out, &mut s, 7)?;
+    say_run(out, &mut s, 8)?;
+    say_words(out, &s)
 }
 
 // The index of the vCPU that has the affinity.
-fn say_index(s: &[u32], mpidr: Mpidr) {
+fn say_index(out: &mut impl Write, s: &[u32], mpidr: Mpidr) -> io::Result<()> {
     if s.len() == 1760 {
         if s[2] <= 8 {
             match state::index_of(s, mpidr) {
                 Found::At(v) => {
-                    say(b" ");
-                    say_decimal(v.0 as u64);
+                    say(out, b" ")?;
+                    say_decimal(out, v.0 as u64)?;
                 }
-                Found::Nowhere => say(b" none"),
+                Found::Nowhere => say(out, b" none")?,
             }
         }
     }
+    Ok(())
 }
 
 // The affinity of a vCPU.
-fn say_affinity(s: &[u32], v: usize) {
+fn say_affinity(out: &mut impl Write, s: &[u32], v: usize) -> io::Result<()> {
     if s.len() == 1760 {
         if v < 8 {
-            say_hex(state::affinity_of(s, VcpuIndex(v)).0 as u64);
+            say_hex(out, state::affinity_of(s, VcpuIndex(v)).0 as u64)?;
         }
     }
+    Ok(())
 }
 
-fn lookups() {
+fn lookups(out: &mut impl Write) -> io::Result<()> {
     let mut s = [0u32; 1760];
     calls::make(&mut s);
     calls::add_vcpu(&mut s, Mpidr(0x10f));
     calls::add_vcpu(&mut s, Mpidr(0x3));
     calls::add_vcpu(&mut s, Mpidr(0x20000));
-    say(b"lookup of 3, 10f, 20000, 4:");
-    say_index(&s, Mpidr(0x3));
-    say_index(&s, Mpidr(0x10f));
-    say_index(&s, Mpidr(0x20000));
-    say_index(&s, Mpidr(0x4));
-    say(b"\naffinities of 0, 1, 2:");
-    say_affinity(&s, 0);
-    say_affinity(&s, 1);
-    say_affinity(&s, 2);
-    say(b"\n");
+    say(out, b"lookup of 3, 10f, 20000, 4:")?;
+    say_index(out, &s, Mpidr(0x3))?;
+    say_index(out, &s, Mpidr(0x10f))?;
+    say_index(out, &s, Mpidr(0x20000))?;
+    say_index(out, &s, Mpidr(0x4))?;
+    say(out, b"\naffinities of 0, 1, 2:")?;
+    say_affinity(out, &s, 0)?;
+    say_affinity(out, &s, 1)?;
+    say_affinity(out, &s, 2)?;
+    say(out, b"\n")
 }
 
-fn refused_adds() {
+fn refused_adds(out: &mut impl Write) -> io::Result<()> {
     let mut s = [0u32; 1760];
-    say(b"add: 10, ff, 1000000, ffffffff, ffff0f, again, 10:");
+    say(out, b"add: 10, ff, 1000000, ffffffff, ffff0f, again, 10:")?;
     calls::make(&mut s);
-    say_add(&mut s, 0x10);
-    say_add(&mut s, 0xff);
-    say_add(&mut s, 0x0100_0000);
-    say_add(&mut s, 0xffff_ffff);
-    say_add(&mut s, 0x00ff_ff0f);
-    say_add(&mut s, 0x00ff_ff0f);
-    say_add(&mut s, 0x10);
-    say_words(&s);
-    say(b"initialised: bad, used, free:");
+    say_add(out, &mut s, 0x10)?;
+    say_add(out, &mut s, 0xff)?;
+    say_add(out, &mut s, 0x0100_0000)?;
+    say_add(out, &mut s, 0xffff_ffff)?;
+    say_add(out, &mut s, 0x00ff_ff0f)?;
+    say_add(out, &mut s, 0x00ff_ff0f)?;
+    say_add(out, &mut s, 0x10)?;
+    say_words(out, &s)?;
+    say(out, b"initialised: bad, used, free:")?;
     calls::set_attribute(&mut s, 4, 0, 0);
-    say_add(&mut s, 0x10);
-    say_add(&mut s, 0x00ff_ff0f);
-    say_add(&mut s, 1);
-    say_words(&s);
+    say_add(out, &mut s, 0x10)?;
+    say_add(out, &mut s, 0x00ff_ff0f)?;
+    say_add(out, &mut s, 1)?;
+    say_words(out, &s)
 }
 
-fn refused_counts() {
+fn refused_counts(out: &mut impl Write) -> io::Result<()> {
     let mut s = [0u32; 1760];
-    say(b"count set: 32, 64, 128:");
+    say(out, b"count set: 32, 64, 128:")?;
     calls::make(&mut s);
     calls::set_attribute(&mut s, 3, 0, 64);
-    say_signed(calls::set_attribute(&mut s, 3, 0, 32));
-    say_signed(calls::set_attribute(&mut s, 3, 0, 64));
-    say_signed(calls::set_attribute(&mut s, 3, 0, 128));
-    say_words(&s);
-    say(b"initialised: 32, 64, 128:");
+    say_signed(out, calls::set_attribute(&mut s, 3, 0, 32))?;
+    say_signed(out, calls::set_attribute(&mut s, 3, 0, 64))?;
+    say_signed(out, calls::set_attribute(&mut s, 3, 0, 128))?;
+    say_words(out, &s)?;
+    say(out, b"initialised: 32, 64, 128:")?;
     calls::add_vcpu(&mut s, Mpidr(0));
     calls::set_attribute(&mut s, 4, 0, 0);
-    say_signed(calls::set_attribute(&mut s, 3, 0, 32));
-    say_signed(calls::set_attribute(&mut s, 3, 0, 64));
-    say_signed(calls::set_attribute(&mut s, 3, 0, 128));
-    say_words(&s);
+    say_signed(out, calls::set_attribute(&mut s, 3, 0, 32))?;
+    say_signed(out, calls::set_attribute(&mut s, 3, 0, 64))?;
+    say_signed(out, calls::set_attribute(&mut s, 3, 0, 128))?;
+    say_words(out, &s)
 }
 
-fn refused_initialise() {
+fn refused_initialise(out: &mut impl Write) -> io::Result<()> {
     let mut s = [0u32; 1760];
-    say(b"no vCPU: get 0, set 1, set 100000000, set 0:");
+    say(out, b"no vCPU: get 0, set 1, set 100000000, set 0:")?;
     calls::make(&mut s);
-    say_signed(calls::get_attribute(&s, 4, 0));
-    say_signed(calls::set_attribute(&mut s, 4, 1, 0));
-    say_signed(calls::set_attribute(&mut s, 4, 0x1_0000_0000, 0));
-    say_signed(calls::set_attribute(&mut s, 4, 0, 0));
-    say_words(&s);
-    say(b"initialised: get 0, set 1, set 0:");
+    say_signed(out, calls::get_attribute(&s, 4, 0))?;
+    say_signed(out, calls::set_attribute(&mut s, 4, 1, 0))?;
+    say_signed(out, calls::set_attribute(&mut s, 4, 0x1_0000_0000, 0))?;
+    say_signed(out, calls::set_attribute(&mut s, 4, 0, 0))?;
+    say_words(out, &s)?;
+    say(out, b"initialised: get 0, set 1, set 0:")?;
     calls::add_vcpu(&mut s, Mpidr(0));
     calls::set_attribute(&mut s, 4, 0, 0);
-    say_signed(calls::get_attribute(&s, 4, 0));
-    say_signed(calls::set_attribute(&mut s, 4, 1, 0));
-    say_signed(calls::set_attribute(&mut s, 4, 0, 0));
-    say_words(&s);
+    say_signed(out, calls::get_attribute(&s, 4, 0))?;
+    say_signed(out, calls::set_attribute(&mut s, 4, 1, 0))?;
+    say_signed(out, calls::set_attribute(&mut s, 4, 0, 0))?;
+    say_words(out, &s)
 }
 
-fn running_flags() {
+fn running_flags(out: &mut impl Write) -> io::Result<()> {
     let mut s = [0u32; 1760];
-    say(b"not initialised: run 0, run 5:");
+    say(out, b"not initialised: run 0, run 5:")?;
     calls::make(&mut s);
     calls::set_attribute(&mut s, 3, 0, 64);
     calls::add_vcpu(&mut s, Mpidr(3));
-    say_run(&mut s, 0);
-    say_run(&mut s, 5);
-    say_words(&s);
-    say(b"initialised: run 0, run 1, run 3, run ffffffffffffffff:");
+    say_run(out, &mut s, 0)?;
+    say_run(out, &mut s, 5)?;
+    say_words(out, &s)?;
+    say(
+        out,
+        b"initialised: run 0, run 1, run 3, run ffffffffffffffff:",
+    )?;
     calls::set_attribute(&mut s, 4, 0, 0);
-    say_run(&mut s, 0);
-    say_run(&mut s, 1);
-    say_run(&mut s, 3);
-    say_run(&mut s, 0xffff_ffff_ffff_ffff);
-    say_words(&s);
-    say(b"run again, stop, stop again:");
-    say_run(&mut s, 0);
-    say_signed(calls::set_running(&mut s, VcpuIndex(0), false));
-    say_signed(calls::set_running(&mut s, VcpuIndex(0), false));
-    say_words(&s);
+    say_run(out, &mut s, 0)?;
+    say_run(out, &mut s, 1)?;
+    say_run(out, &mut s, 3)?;
+    say_run(out, &mut s, 0xffff_ffff_ffff_ffff)?;
+    say_words(out, &s)?;
+    say(out, b"run again, stop, stop again:")?;
+    say_run(out, &mut s, 0)?;
+    say_signed(out, calls::set_running(&mut s, VcpuIndex(0), false))?;
+    say_signed(out, calls::set_running(&mut s, VcpuIndex(0), false))?;
+    say_words(out, &s)
 }
 
-fn run_one_of_three() {
+fn run_one_of_three(out: &mut impl Write) -> io::Result<()> {
     let mut s = [0u32; 1760];
-    say(b"three vCPUs: run 1, run 2, stop 1, stop 0:");
+    say(out, b"three vCPUs: run 1, run 2, stop 1, stop 0:")?;
     calls::make(&mut s);
     calls::set_attribute(&mut s, 3, 0, 64);
     calls::add_vcpu(&mut s, Mpidr(0));
     calls::add_vcpu(&mut s, Mpidr(1));
     calls::add_vcpu(&mut s, Mpidr(2));
     calls::set_attribute(&mut s, 4, 0, 0);
-    say_run(&mut s, 1);
-    say_run(&mut s, 2);
-    say_signed(calls::set_running(&mut s, VcpuIndex(1), false));
-    say_signed(calls::set_running(&mut s, VcpuIndex(0), false));
-    say_words(&s);
+    say_run(out, &mut s, 1)?;
+    say_run(out, &mut s, 2)?;
+    say_signed(out, calls::set_running(&mut s, VcpuIndex(1), false))?;
+    say_signed(out, calls::set_running(&mut s, VcpuIndex(0), false))?;
+    say_words(out, &s)
 }
 
-fn eight_initialised() {
+fn eight_initialised(out: &mut impl Write) -> io::Result<()> {
     let mut s = eight_vcpus();
     calls::set_attribute(&mut s, 4, 0, 0);
-    say(b"eight, initialised: bad, used, free, get 7:");
-    say_add(&mut s, 0x10);
-    say_add(&mut s, 0x700);
-    say_add(&mut s, 0x0f);
-    say_signed(calls::get_attribute(&s, 4, 7));
-    say(b"\n");
+    say(out, b"eight, initialised: bad, used, free, get 7:")?;
+    say_add(out, &mut s, 0x10)?;
+    say_add(out, &mut s, 0x700)?;
+    say_add(out, &mut s, 0x0f)?;
+    say_signed(out, calls::get_attribute(&s, 4, 7))?;
+    say(out, b"\n")
 }
 
 // Calls that would be refused otherwise too, on a state that is not sound.
-fn fault_first() {
+fn fault_first(out: &mut impl Write) -> io::Result<()> {
     let mut s = one_vcpu();
     store(&mut s, 15, 1);
-    say(b"not sound: add 10, add 0, run 9, count 32, initialise 1, get 7:");
-    say_add(&mut s, 0x10);
-    say_add(&mut s, 0);
-    say_run(&mut s, 9);
-    say_signed(calls::set_attribute(&mut s, 3, 0, 32));
-    say_signed(calls::set_attribute(&mut s, 4, 1, 0));
-    say_signed(calls::get_attribute(&s, 4, 7));
-    say_words(&s);
+    say(
+        out,
+        b"not sound: add 10, add 0, run 9, count 32, initialise 1, get 7:",
+    )?;
+    say_add(out, &mut s, 0x10)?;
+    say_add(out, &mut s, 0)?;
+    say_run(out, &mut s, 9)?;
+    say_signed(out, calls::set_attribute(&mut s, 3, 0, 32))?;
+    say_signed(out, calls::set_attribute(&mut s, 4, 1, 0))?;
+    say_signed(out, calls::get_attribute(&s, 4, 7))?;
+    say_words(out, &s)
 }
 
 // ---- states that are not sound
@@ -446,32 +457,23 @@ const WHOLE: [[u32; 3]; 11] = [
 ];
 
 fn same_words(a: &[u32], b: &[u32]) -> bool {
-    if a.len() != b.len() {
-        return false;
-    }
-    let mut i: usize = 0;
-    while i < a.len() {
-        if a[i] != b[i] {
-            return false;
-        }
-        i += 1;
-    }
-    true
+    a == b
 }
 
 // The answers of every call but make, and whether the words are those of `before`.
-fn say_calls(s: &mut [u32], before: &[u32]) {
-    say_signed(calls::add_vcpu(s, Mpidr(2)));
-    say_signed(calls::set_running(s, VcpuIndex(0), true));
-    say_signed(calls::set_attribute(s, 3, 0, 64));
-    say_signed(calls::get_attribute(s, 3, 0));
-    say_signed(calls::set_attribute(s, 4, 0, 0));
-    say_signed(calls::get_attribute(s, 4, 0));
+fn say_calls(out: &mut impl Write, s: &mut [u32], before: &[u32]) -> io::Result<()> {
+    say_signed(out, calls::add_vcpu(s, Mpidr(2)))?;
+    say_signed(out, calls::set_running(s, VcpuIndex(0), true))?;
+    say_signed(out, calls::set_attribute(s, 3, 0, 64))?;
+    say_signed(out, calls::get_attribute(s, 3, 0))?;
+    say_signed(out, calls::set_attribute(s, 4, 0, 0))?;
+    say_signed(out, calls::get_attribute(s, 4, 0))?;
     if same_words(s, before) {
-        say(b" kept\n");
+        say(out, b" kept\n")?;
     } else {
-        say(b" changed\n");
+        say(out, b" changed\n")?;
     }
+    Ok(())
 }
 
 fn store(s: &mut [u32], at: usize, word: u32) {
@@ -481,29 +483,28 @@ fn store(s: &mut [u32], at: usize, word: u32) {
 }
 
 // One place of a sound state: the count that it gives with the row's first value there, and every call's answer with its second there.
-fn place_case(state: [u32; 1760], row: [u32; 3]) {
+fn place_case(out: &mut impl Write, state: [u32; 1760], row: [u32; 3]) -> io::Result<()> {
     let mut s = state;
     let at = row[0] as usize;
     let first = row[1];
     let second = row[2];
     store(&mut s, at, first);
-    say_decimal(at as u64);
-    say_hex(first as u64);
-    say(b":");
-    say_signed(calls::get_attribute(&s, 3, 0));
+    say_decimal(out, at as u64)?;
+    say_hex(out, first as u64)?;
+    say(out, b":")?;
+    say_signed(out, calls::get_attribute(&s, 3, 0))?;
     store(&mut s, at, second);
     let before = s;
-    say_hex(second as u64);
-    say(b":");
-    say_calls(&mut s, &before);
+    say_hex(out, second as u64)?;
+    say(out, b":")?;
+    say_calls(out, &mut s, &before)
 }
 
-fn place_cases(state: [u32; 1760], rows: &[[u32; 3]]) {
-    let mut i: usize = 0;
-    while i < rows.len() {
-        place_case(state, rows[i]);
-        i += 1;
+fn place_cases(out: &mut impl Write, state: [u32; 1760], rows: &[[u32; 3]]) -> io::Result<()> {
+    for row in rows {
+        place_case(out, state, *row)?;
     }
+    Ok(())
 }
 
 // A device of count 64 and one vCPU.
@@ -531,93 +532,94 @@ fn eight_vcpus() -> [u32; 1760] {
     s
 }
 
-fn used_words() {
+fn used_words(out: &mut impl Write) -> io::Result<()> {
     let mut s = one_vcpu();
     calls::set_attribute(&mut s, 4, 0, 0);
-    say(b"count 64, one vCPU, initialised\n");
-    place_cases(s, &USED);
+    say(out, b"count 64, one vCPU, initialised\n")?;
+    place_cases(out, s, &USED)
 }
 
-fn whole_words() {
+fn whole_words(out: &mut impl Write) -> io::Result<()> {
     let mut s = one_vcpu();
     calls::set_attribute(&mut s, 4, 0, 0);
-    say(b"words that may have every bit\n");
-    place_cases(s, &WHOLE);
+    say(out, b"words that may have every bit\n")?;
+    place_cases(out, s, &WHOLE)
 }
 
-fn full_words() {
+fn full_words(out: &mut impl Write) -> io::Result<()> {
     let mut s = eight_vcpus();
     calls::set_attribute(&mut s, 4, 0, 0);
-    say(b"count 1024, eight vCPUs, initialised\n");
-    place_cases(s, &FULL);
+    say(out, b"count 1024, eight vCPUs, initialised\n")?;
+    place_cases(out, s, &FULL)
 }
 
-fn started_words() {
-    say(b"count 64, one vCPU, before initialising\n");
-    place_cases(one_vcpu(), &STARTED);
+fn started_words(out: &mut impl Write) -> io::Result<()> {
+    say(out, b"count 64, one vCPU, before initialising\n")?;
+    place_cases(out, one_vcpu(), &STARTED)
 }
 
-fn added_words() {
-    say(b"count 1024, eight vCPUs, before initialising\n");
-    place_cases(eight_vcpus(), &ADDED);
+fn added_words(out: &mut impl Write) -> io::Result<()> {
+    say(out, b"count 1024, eight vCPUs, before initialising\n")?;
+    place_cases(out, eight_vcpus(), &ADDED)
 }
 
-fn empty_words() {
+fn empty_words(out: &mut impl Write) -> io::Result<()> {
     let mut s = [0u32; 1760];
     calls::make(&mut s);
-    say(b"just made\n");
-    place_cases(s, &EMPTY);
+    say(out, b"just made\n")?;
+    place_cases(out, s, &EMPTY)
 }
 
 // ---- states of another length
 
 // The answers of every call, and whether the words are those of `before`.
-fn length_case(s: &mut [u32], before: &[u32]) {
-    say(b"length ");
-    say_decimal(s.len() as u64);
-    say(b":");
-    say_signed(calls::make(s));
-    say_calls(s, before);
+fn length_case(out: &mut impl Write, s: &mut [u32], before: &[u32]) -> io::Result<()> {
+    say(out, b"length ")?;
+    say_decimal(out, s.len() as u64)?;
+    say(out, b":")?;
+    say_signed(out, calls::make(s))?;
+    say_calls(out, s, before)
 }
 
 // The words of a device just made, and one more.
-fn longer_device() {
+fn longer_device(out: &mut impl Write) -> io::Result<()> {
     let mut s = [0u32; 1761];
-    length_case(&mut s, &[0u32; 1761]);
+    length_case(out, &mut s, &[0u32; 1761])
 }
 
-fn lengths() {
+fn lengths(out: &mut impl Write) -> io::Result<()> {
     let mut none = [7u32; 0];
     let mut one = [7u32; 1];
     let mut less = [7u32; 1759];
     let mut more = [7u32; 1761];
-    say(b"wrong lengths: make, then the others\n");
-    length_case(&mut none, &[7u32; 0]);
-    length_case(&mut one, &[7u32; 1]);
-    length_case(&mut less, &[7u32; 1759]);
-    length_case(&mut more, &[7u32; 1761]);
-    longer_device();
+    say(out, b"wrong lengths: make, then the others\n")?;
+    length_case(out, &mut none, &[7u32; 0])?;
+    length_case(out, &mut one, &[7u32; 1])?;
+    length_case(out, &mut less, &[7u32; 1759])?;
+    length_case(out, &mut more, &[7u32; 1761])?;
+    longer_device(out)
 }
 
-fn main() {
-    counts();
-    count_first();
-    vcpus_first();
-    no_count();
-    nine_vcpus();
-    lookups();
-    refused_adds();
-    refused_counts();
-    refused_initialise();
-    running_flags();
-    run_one_of_three();
-    eight_initialised();
-    fault_first();
-    used_words();
-    whole_words();
-    full_words();
-    started_words();
-    added_words();
-    empty_words();
-    lengths();
+fn main(rt: HostRuntime) -> io::Result<()> {
+    let mut out = rt.stdout();
+    counts(&mut out)?;
+    count_first(&mut out)?;
+    vcpus_first(&mut out)?;
+    no_count(&mut out)?;
+    nine_vcpus(&mut out)?;
+    lookups(&mut out)?;
+    refused_adds(&mut out)?;
+    refused_counts(&mut out)?;
+    refused_initialise(&mut out)?;
+    running_flags(&mut out)?;
+    run_one_of_three(&mut out)?;
+    eight_initialised(&mut out)?;
+    fault_first(&mut out)?;
+    used_words(&mut out)?;
+    whole_words(&mut out)?;
+    full_words(&mut out)?;
+    started_words(&mut out)?;
+    added_words(&mut out)?;
+    empty_words(&mut out)?;
+    lengths(&mut out)
 }
