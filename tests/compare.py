@@ -3,10 +3,10 @@
 
     compare.py [SEED] [LINES] [DEVICES]
 
-Builds the crate `vgic` (rt staticlib) and tests/driver.c, which makes the calls
-of libvgic.a.  The driver and xdrill.py get the same lines: some that visit every
-offset, every encoding by attribute, every priority at every binary point and
-running level, and chains of preemption; records saved into buffers of every
+Builds libvgic.a (host/run library) and tests/driver.c, which makes its calls.
+The driver and xdrill.py get the same lines: some that visit every offset, every
+encoding by attribute, every priority at every binary point and running level, and
+chains of preemption; records saved into buffers of every
 length, and restored whole and damaged at every place into devices of every kind
 (records.py); DEVICES (60) random stopped devices, each made again from a fresh
 one by puts of every listed attribute or by its record, and then the same calls on
@@ -368,7 +368,7 @@ def build():
     os.makedirs(MADE, exist_ok=True)
     library = os.environ.get("LIBRARY")
     if not library:
-        run_tool("rt", "staticlib", "vgic", cwd=ROOT)
+        run_tool(os.path.join(ROOT, "host", "run"), "library", cwd=ROOT)
         library = os.path.join(ROOT, "target", "staticlib", "libvgic.a")
     driver = os.path.join(MADE, "driver")
     source = os.path.join(ROOT, "tests", "driver.c")

@@ -358,15 +358,15 @@ def unsound(chunks, options):
 # ---- files ----------------------------------------------------------------------
 
 HEAD = """\
-use mathlib.Core.Path.{_≡_, refl}
+use mathlib.Core.Path.{◌≡◌, refl}
 use Prim.Native.Nat.{ℕ}
 use mathlib.Core.Bool.{true, false}
-use mathlib.Core.List.{List, [], _∷_, _++_}
+use mathlib.Core.List.{List, [], ◌∷◌, ◌++◌}
 use lib.ListN.{replicate}
-use Rattle·model.specs.Calls.{make, add_vcpu, set_running, change_line, query_signal, read_distributor, write_distributor, read_frame, write_frame, read_system, write_system, get_attribute, set_attribute, save, restore}
-use Rattle·worked·proofs.proofs.Rows.{Row, gives, refuses, saves, words, changed, differs}
+use Rattle.model.specs.Calls.{make, add_vcpu, set_running, change_line, query_signal, read_distributor, write_distributor, read_frame, write_frame, read_system, write_system, get_attribute, set_attribute, save, restore}
+use Rattle.worked.proofs.Rows.{Row, gives, refuses, saves, words, changed, differs}
 """
-USED = ("true", "false", "_++_", "replicate", "make", "add_vcpu", "set_running",
+USED = ("true", "false", "◌++◌", "replicate", "make", "add_vcpu", "set_running",
         "change_line", "query_signal", "read_distributor", "write_distributor",
         "read_frame", "write_frame", "read_system", "write_system", "get_attribute",
         "set_attribute", "save", "restore", "gives", "refuses", "saves",
@@ -378,7 +378,7 @@ def head(body):
     text = HEAD
     tokens = set(re.findall(r"[^\s(){}.,;]+", body))
     for name in USED:
-        if name.strip("_") not in tokens:
+        if name.strip("◌") not in tokens:
             text = re.sub(r"(, |(?<=\{))%s(?=[,}])" % re.escape(name), "", text)
     text = text.replace("{, ", "{")
     return "".join(l for l in text.splitlines(True) if "{}" not in l)
@@ -489,7 +489,7 @@ ANSWER_BITS, LEFT_BITS = 34, 44
 def probe(row):
     bits_ = [("answer", i) for i in range(ANSWER_BITS)] + [
         ("left", i) for i in range(LEFT_BITS)]
-    print(HEAD.replace("{ℕ}", "{ℕ, suc, _+_, _*_, _/_, _%_, _^_}")
+    print(HEAD.replace("{ℕ}", "{ℕ, suc, ◌+◌, ◌*◌, ◌/◌, ◌%◌, ◌^◌}")
           .replace("{true,", "{Bool, true,")
           .replace("Calls.{", "Calls.{Outcome, call, ")
           .replace("{Row, gives, refuses, saves, words, changed,", "{words,")
@@ -508,8 +508,8 @@ otherwise p [] ys = 2047
 otherwise p (x ∷ xs) [] = 2047
 otherwise p (x ∷ xs) (y ∷ ys) = elim (eqb x y) [ true ↦ otherwise (suc p) xs ys | false ↦ p + 2048 * x ]
 
-isSet : ℕ → ℕ → Bool
-isSet n i = eqb (n / 2 ^ i %% 2) 1
+is_set : ℕ → ℕ → Bool
+is_set n i = eqb (n / 2 ^ i %% 2) 1
 
 abbrev before : List ℕ
 before = %s
@@ -521,13 +521,13 @@ abbrev outcome : Outcome
 outcome = call (%s) before
 
 abbrev answer : ℕ
-answer = doubled (outcome .answer)
+answer = doubled outcome.answer
 
 abbrev left : ℕ
-left = otherwise 0 (outcome .state) wanted
+left = otherwise 0 outcome.state wanted
 """ % (state_term(row.before), state_term(row.after), row.call()))
     for name, i in bits_:
-        print("%s-%d : isSet %s %d ≡ true\nunfolding differs doubled otherwise isSet\n%s-%d = refl\n"
+        print("%s-%d : is_set %s %d ≡ true\nunfolding differs doubled otherwise is_set\n%s-%d = refl\n"
               % (name, i, name, i, name, i))
 
 

@@ -14,7 +14,7 @@ fn main() {
     println!("cargo:rerun-if-changed={}", archive.display());
     assert!(
         archive.is_file(),
-        "no {}: `rt staticlib vgic` writes it, VGIC_LIB_DIR names another folder",
+        "no {}: `host/run library` writes it, VGIC_LIB_DIR names another folder",
         archive.display()
     );
     println!("cargo:rustc-link-search=native={}", folder.display());

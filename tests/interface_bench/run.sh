@@ -4,6 +4,6 @@ set -eu
 cd "$(dirname "$0")/../.."
 tmp=$(mktemp -d)
 trap 'rm -rf "$tmp"' EXIT
-rt staticlib vgic >"$tmp/log" 2>&1 || { cat "$tmp/log"; exit 1; }
+host/run library
 gcc -std=gnu11 -O3 -Wall -Wextra -o "$tmp/bench" tests/interface_bench/bench.c target/staticlib/libvgic.a
 "$tmp/bench"

@@ -25,33 +25,33 @@ const DEVICES: usize = 500;
 
 /// The `use` lines, each with its names; those that a file does not use are left out.
 const USES: [(&str, &[&str]); 7] = [
-    ("mathlib.Core.Path", &["_≡_", "refl"]),
+    ("mathlib.Core.Path", &["◌≡◌", "refl"]),
     ("Prim.Native.Nat", &["ℕ"]),
     ("mathlib.Core.Bool", &["true", "false"]),
-    ("mathlib.Core.List", &["List", "[]", "_∷_", "_++_"]),
+    ("mathlib.Core.List", &["List", "[]", "◌∷◌", "◌++◌"]),
     ("lib.ListN", &["replicate"]),
     (
-        "Rattle·model.specs.Calls",
+        "Rattle.model.specs.Calls",
         &[
             "make",
-            "addVcpu",
-            "setRunning",
-            "changeLine",
-            "querySignal",
-            "readDistributor",
-            "writeDistributor",
-            "readFrame",
-            "writeFrame",
-            "readSystem",
-            "writeSystem",
-            "getAttribute",
-            "setAttribute",
+            "add_vcpu",
+            "set_running",
+            "change_line",
+            "query_signal",
+            "read_distributor",
+            "write_distributor",
+            "read_frame",
+            "write_frame",
+            "read_system",
+            "write_system",
+            "get_attribute",
+            "set_attribute",
             "save",
             "restore",
         ],
     ),
     (
-        "Rattle·worked·proofs.proofs.Rows",
+        "Rattle.worked.proofs.Rows",
         &[
             "Row", "gives", "refuses", "saves", "words", "changed", "differs",
         ],
@@ -63,7 +63,7 @@ fn head(body: &str) -> String {
     let between = |c: char| c.is_whitespace() || "(){}.,;".contains(c);
     let is_used = |name: &&&str| {
         body.split(between)
-            .any(|token| token == name.trim_matches('_'))
+            .any(|token| token == name.trim_matches('◌'))
     };
     let mut lines = String::new();
     for (module, names) in USES {
@@ -214,7 +214,7 @@ pub fn write(folder: &Path) -> Compared<()> {
         return Err(Difference(format!("theorems: {}", missing.join("\n"))));
     }
     for (name, text) in files {
-        let path = folder.join(format!("Sessions{name}.antt"));
+        let path = folder.join(format!("PlainSessions{name}.antt.txt"));
         let written = std::fs::write(&path, &text);
         written.map_err(|error| failed(&path.display().to_string(), error))?;
         println!("{}: {} lines", path.display(), text.lines().count());
