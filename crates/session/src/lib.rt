@@ -1,8 +1,11 @@
-// A session of `drill`: lines read from one stream, their answers written to another. What is read and written no contract can say; the rest is in `console`.
+// A session of `drill`: lines read from one stream, their answers written to another. Where a reader's and a writer's bytes are known, what is written is what `drill` says of what is read; of a file or a terminal no contract can say them.
 #![tactic(auto)]
 
-ghost use Rattle.std.specs.Prelude.{◌≡◌, [], ◌≤◌, length, take, IfOk, OnErr};
-ghost use Rattle.session.specs.Inputs.{begins, ReadOn, ReadOnTo};
+ghost use Rattle.std.specs.Prelude.{◌≡◌, [], ◌-◌, ◌^◌, ◌<◌, ◌≤◌, length, take, IfOk, IfSome, OnErr, OnOk};
+ghost use Rattle.std.specs.Io.{ReadsAtMost};
+ghost use Rattle.std.specs.Io.KnownBytes.{Appends, IsAtEnd, ReadConsumes};
+ghost use Rattle.console.specs.Sessions.{drill};
+ghost use Rattle.session.specs.Inputs.{begins, ReadOn, ReadOnTo, Answered, Turns};
 
 use std::io;
 use std::io::{ErrorKind, Read, Write};
@@ -14,7 +17,25 @@ pub struct Turn {
     pub kept: usize,
 }
 
-// Reads once, runs the lines that end in what came, and writes their answers. A read that a signal interrupts reads nothing.
+// One read, made again where a signal interrupts it.
+fn read_block<R: Read>(from: &mut R, block: &mut [u8]) -> io::Result<usize>
+    ensures bound { ReadsAtMost result block.new }
+    ensures bytes { ReadConsumes (R.remaining from.old) (R.remaining from.new) result block.new }
+{
+    for _ in 0..u64::MAX {
+        match from.read(block) {
+            Ok(n) => return Ok(n),
+            Err(e) => {
+                if e.kind() != ErrorKind::Interrupted {
+                    return Err(e);
+                }
+            }
+        }
+    }
+    from.read(block)
+}
+
+// Reads once, runs the lines that end in what came, and writes their answers.
 fn read_some<R: Read, W: Write>(
     from: &mut R,
     to: &mut W,
@@ -25,21 +46,12 @@ fn read_some<R: Read, W: Write>(
     requires { (length line.old ≡ 81) × (kept ≤ 81) }
     ensures read_on { IfOk result (λ turn. ReadOn (begins state.old (take kept line.old)) state.new (take turn.kept line.new)) }
     ensures kept_bound { IfOk result (λ turn. turn.kept ≤ 81) }
+    ensures answered { IfOk result (λ turn. Answered (begins state.old (take kept line.old)) (R.remaining from.old) (R.remaining from.new) (W.contents to.old) (W.contents to.new) state.new (take turn.kept line.new)) }
+    ensures turns { IfOk result (λ turn. Turns turn.goes_on (R.remaining from.old) (R.remaining from.new)) }
     ensures err { OnErr result (ReadOnTo (begins state.old (take kept line.old)) state.new line.new) }
 {
     let mut block = [0u8; 4096];
-    let n = match from.read(&mut block) {
-        Ok(n) => n,
-        Err(e) => {
-            if e.kind() == ErrorKind::Interrupted {
-                return Ok(Turn {
-                    goes_on: true,
-                    kept,
-                });
-            }
-            return Err(e);
-        }
-    };
+    let n = read_block(from, &mut block)?;
     if n == 0 {
         return Ok(Turn {
             goes_on: false,
@@ -65,6 +77,8 @@ fn read_all<R: Read, W: Write>(
     requires { length line.old ≡ 81 }
     ensures read_on { IfOk result (λ kept. ReadOn (begins state.old []) state.new (take kept line.new)) }
     ensures upper_bound { IfOk result (λ kept. kept ≤ 81) }
+    ensures answered { IfOk result (λ kept. Answered (begins state.old []) (R.remaining from.old) (R.remaining from.new) (W.contents to.old) (W.contents to.new) state.new (take kept line.new)) }
+    ensures ends { OnOk result (IfSome (R.remaining from.old) (λ input. length input < 2 ^ 64 - 1 → IsAtEnd (R.remaining from.new))) }
     ensures err { OnErr result (ReadOnTo (begins state.old []) state.new line.new) }
 {
     let mut kept: usize = 0;
@@ -79,12 +93,15 @@ fn read_all<R: Read, W: Write>(
 }
 
 // Makes a device and runs the lines of the input on it.
-pub fn run<R: Read, W: Write>(from: &mut R, to: &mut W) -> io::Result<()> {
+pub fn run<R: Read, W: Write>(from: &mut R, to: &mut W) -> io::Result<()>
+    ensures { OnOk result (IfSome (R.remaining from.old) (λ input. length input < 2 ^ 64 - 1 → Appends (W.contents to.old) (W.contents to.new) (drill input))) }
+{
     let mut state = [0u32; 1760];
     calls::make(&mut state);
     let mut line = [0u8; 81];
     let kept = read_all(from, to, &mut state, &mut line)?;
     let mut out = [0u8; 24];
     let n = console::run_last(&mut state, &line, kept, &mut out);
-    to.write_all(&out[..n])
+    to.write_all(&out[..n])?;
+    Ok(())
 }
