@@ -46,7 +46,7 @@ def kind_of(call, answer):
     if call[0] in ("save", "restore"):
         return "%s, %s" % (call[0], "refused with " + answer
                            if answer.startswith("-") else "done")
-    if call[0] in ("getAttribute", "setAttribute"):
+    if call[0] in ("get_attribute", "set_attribute"):
         return "%s, %s" % (call[0], "group %d" % call[1] if call[1] in GROUPS
                            else "unknown group")
     return call[0]
@@ -60,12 +60,12 @@ def moments(device):
 
 def came_to(call, answer, before, after):
     """What an answered call of the CPU interface came to, if to anything."""
-    if call[0] == "querySignal":
+    if call[0] == "query_signal":
         return ["signal not 0"] if answer != "0" else []
-    if call[0] == "readSystem" and call[2] in gen.IAR and answer != "3ff":
+    if call[0] == "read_system" and call[2] in gen.IAR and answer != "3ff":
         deeper = any(before[call[1]][0])
         return ["IAR that gave an ID"] + ["  of these, preemptions"] * deeper
-    if call[0] != "writeSystem" or before == after:
+    if call[0] != "write_system" or before == after:
         return []
     if call[2] in gen.EOIR:
         return ["EOIR that cleared a bit"]

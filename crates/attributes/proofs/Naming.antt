@@ -19,7 +19,6 @@ use Rattle.model.specs.declared.Item.{Item}
 use Rattle.model.specs.declared.RegisterGroup.{RegisterGroup}
 use Rattle.model.specs.declared.RegisterGroup.TheVariants.{Distributor, Redistributor, Interface, Lines}
 use Rattle.model.specs.declared.AttributeGroup.TheVariants.{Registers}
-use Rattle.model.proofs.Tests.{both}
 use Rattle.model.proofs.Refused.{none_then, fails-then, passed, Fails, none_of, fails, holds, fails-first, refusal-list, told-no, told-yes, refuses, grants}
 use Rattle.attributes.specs.Names.{group_number, place_of, item_at, named_by, item_named, Within}
 use Rattle.attributes.specs.declared.Place.{Place}

@@ -10,7 +10,7 @@ use native.Mathlib.Omega.{arith}
 use borrow.Author.Tests.{lt-ltb, le-ltb, ltb-true}
 use borrow.Rule.Slice.PartMut.{mid_of}
 use lib.Dec.{leb, ltb}
-use Rattle.model.specs.Layout.{most_vcpus, word, is_initialised, vcpus, bank}
+use Rattle.model.specs.Layout.{most_vcpus, word, vcpus, bank}
 use Rattle.model.specs.Interrupts.{is_private, is_ppi, is_spi, set_flag}
 use Rattle.model.specs.Sound.{sound}
 use Rattle.model.specs.Refusals.{first_failing}
@@ -19,7 +19,7 @@ use Rattle.model.specs.Calls.{has_line, vcpu_checks, phase}
 use Rattle.model.specs.declared.Phase.{Phase}
 use Rattle.model.specs.declared.Phase.TheVariants.{Changing}
 use Rattle.model.proofs.Kept.{in-phase}
-use Rattle.model.specs.declared.Errno.TheVariants.{Efault, Ebusy, Einval}
+use Rattle.model.specs.declared.Errno.TheVariants.{Efault, Einval}
 use Rattle.model.specs.declared.Refusal.{Refusal}
 use Rattle.model.specs.declared.Refusal.TheVariants.{None}
 use Rattle.model.proofs.Tests.{both}

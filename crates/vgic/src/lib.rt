@@ -146,7 +146,7 @@ pub extern "C" fn vgic_set_attribute(
 
 // ---- the record
 
-// Leaves the record at the front of a buffer, and its length or the refusal in `result`; the rest of the buffer keeps its bytes, and a refusal changes none.
+// Leaves the record at the front of a buffer, and its length or the refusal in `res`; the rest of the buffer keeps its bytes, and a refusal changes none.
 #[unsafe(no_mangle)]
 pub extern "C" fn vgic_save(state: &[u32], buf: &mut [u8], res: &mut i64)
     ensures { Does (call (save buf.old) state.now) res.new state.now (buf.new ∷ []) }

@@ -1,7 +1,6 @@
 -- `access::by_byte` meets its contract.
 use Rattle.model.specs.Registers.{by_byte}
 use Rattle.access.proofs.Accesses.{by_word}
-use borrow.Author.Rules.{rules}
 use Rattle.access.proofs.by_byte.Goals as goal
 
 pub returns-in-Priority : goal.returns-in-Priority

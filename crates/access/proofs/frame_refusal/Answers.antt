@@ -2,7 +2,6 @@
 use lib.Dec.{lit<}
 use Rattle.state.proofs.Admitted.{refusing, admitted-size, admitted-inside, vcpu-inside}
 use Rattle.access.proofs.Accesses.{front-frame, rest-frame, front_fits}
-use borrow.Author.Rules.{rules}
 use Rattle.access.proofs.frame_refusal.Goals as goal
 
 pub returns-in-Refuse : goal.returns-in-Refuse

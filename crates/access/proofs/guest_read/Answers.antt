@@ -1,6 +1,5 @@
 -- `access::guest_read` meets its contract.
 use Rattle.access.proofs.Accesses.{listed-word, reads-unlisted, reads_whole, reads_byte, reads-less}
-use borrow.Author.Rules.{rules}
 use Rattle.access.proofs.guest_read.Goals as goal
 
 pub returns-in_default : goal.returns-in_default

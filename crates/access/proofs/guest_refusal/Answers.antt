@@ -1,6 +1,5 @@
 -- `access::guest_refusal` meets its contract.
 use Rattle.access.proofs.Accesses.{own-frame}
-use borrow.Author.Rules.{rules}
 use Rattle.access.proofs.guest_refusal.Goals as goal
 
 pub returns : goal.returns

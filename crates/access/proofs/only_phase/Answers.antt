@@ -1,6 +1,5 @@
 -- `access::only_phase` meets its contract.
 use Rattle.access.proofs.Systems.{iar-phase, hppir-phase, rpr-phase}
-use borrow.Author.Rules.{rules}
 use Rattle.access.proofs.only_phase.Goals as goal
 
 pub returns-in-Iar : goal.returns-in-Iar

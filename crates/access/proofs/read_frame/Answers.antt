@@ -2,7 +2,6 @@
 use Rattle.model.specs.Calls.{describe}
 use Rattle.state.proofs.Admitted.{answering, admitted-sound}
 use Rattle.access.proofs.Accesses.{frame-inside, frame-read}
-use borrow.Author.Rules.{rules}
 use Rattle.access.proofs.read_frame.Goals as goal
 
 pub returns-in-Refuse : goal.returns-in-Refuse

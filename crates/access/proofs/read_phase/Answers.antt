@@ -1,6 +1,5 @@
 -- `access::read_phase` meets its contract.
 use Rattle.access.proofs.Systems.{both-phase, only-phase, write-phase, unnamed-phase}
-use borrow.Author.Rules.{rules}
 use Rattle.access.proofs.read_phase.Goals as goal
 
 pub returns-in-Both : goal.returns-in-Both

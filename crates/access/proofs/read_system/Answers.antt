@@ -1,6 +1,5 @@
 -- `access::read_system` meets its contract.
 use Rattle.access.proofs.Systems.{read-refused, read-settled, guest-usable, encoding-group}
-use borrow.Author.Rules.{rules}
 use Rattle.access.proofs.read_system.Goals as goal
 
 pub returns-in-Refuse : goal.returns-in-Refuse

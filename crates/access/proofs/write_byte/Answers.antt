@@ -1,7 +1,6 @@
 -- `access::write_byte` meets its contract.
 use Rattle.registers.proofs.Requests.{asked}
 use Rattle.access.proofs.Accesses.{byte_put}
-use borrow.Author.Rules.{rules}
 use Rattle.access.proofs.write_byte.Goals as goal
 
 pub write_priority-requires : goal.write_priority-requires

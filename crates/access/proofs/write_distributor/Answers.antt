@@ -3,7 +3,6 @@ use lib.Dec.{lit<}
 use Rattle.model.specs.Registers.{seen_by}
 use Rattle.model.specs.Calls.{describe}
 use Rattle.state.proofs.Admitted.{answering, admitted-sound}
-use borrow.Author.Rules.{rules}
 use Rattle.access.proofs.write_distributor.Goals as goal
 
 pub returns-in-Refuse : goal.returns-in-Refuse

@@ -1,7 +1,6 @@
 -- `access::write_system` meets its contract.
 use Rattle.state.proofs.Admitted.{admitted-size, admitted-few}
 use Rattle.access.proofs.Systems.{write-refused, write-settled, guest-index, encoding-group}
-use borrow.Author.Rules.{rules}
 use Rattle.access.proofs.write_system.Goals as goal
 
 pub returns-in-Refuse : goal.returns-in-Refuse

@@ -1,6 +1,5 @@
 -- `attributes::get` meets its contract.
 use Rattle.attributes.proofs.Groups.{grouped}
-use borrow.Author.Rules.{rules}
 use Rattle.attributes.proofs.get.Goals as goal
 
 pub returns-in-Registers : goal.returns-in-Registers

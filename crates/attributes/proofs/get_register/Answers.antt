@@ -1,7 +1,6 @@
 -- `attributes::get_register` meets its contract.
 use Rattle.model.specs.Calls.{describe}
 use Rattle.attributes.proofs.Naming.{named, named-within}
-use borrow.Author.Rules.{rules}
 use Rattle.attributes.proofs.get_register.Goals as goal
 
 pub read_item-requires : goal.read_item-requires

@@ -1,6 +1,5 @@
 -- `attributes::set` meets its contract.
 use Rattle.attributes.proofs.Groups.{grouped}
-use borrow.Author.Rules.{rules}
 use Rattle.attributes.proofs.set.Goals as goal
 
 pub returns-in-Registers : goal.returns-in-Registers

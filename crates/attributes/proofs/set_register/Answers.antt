@@ -2,7 +2,6 @@
 use Rattle.model.specs.Calls.{describe}
 use Rattle.model.proofs.Refused.{told-yes}
 use Rattle.attributes.proofs.Naming.{named, named-within}
-use borrow.Author.Rules.{rules}
 use Rattle.attributes.proofs.set_register.Goals as goal
 
 pub returns-then-not-takes_value : goal.returns-then-not-takes_value

@@ -1,6 +1,5 @@
 -- `attributes::unknown_group` meets its contract.
 use Rattle.state.proofs.Admitted.{refusing}
-use borrow.Author.Rules.{rules}
 use Rattle.attributes.proofs.unknown_group.Goals as goal
 
 pub returns-then-not-is_sound : goal.returns-then-not-is_sound

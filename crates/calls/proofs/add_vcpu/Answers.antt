@@ -1,6 +1,5 @@
 -- `calls::add_vcpu` meets its contract.
 use Rattle.calls.proofs.Shape.{public}
-use borrow.Author.Rules.{rules}
 use Rattle.calls.proofs.add_vcpu.Goals as goal
 
 pub returns : goal.returns

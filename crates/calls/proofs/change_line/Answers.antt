@@ -1,6 +1,5 @@
 -- `calls::change_line` meets its contract.
 use Rattle.calls.proofs.Shape.{public}
-use borrow.Author.Rules.{rules}
 use Rattle.calls.proofs.change_line.Goals as goal
 
 pub returns : goal.returns

@@ -4,7 +4,6 @@ use mathlib.Core.Path.{◌≡◌, ◌∙◌, ap, sym}
 use Prim.Native.Nat.{ℕ}
 use Rattle.model.specs.Refusals.{errno}
 use Rattle.model.specs.declared.Errno.{Errno}
-use borrow.Author.Rules.{rules}
 use Rattle.calls.proofs.errno_of.Goals as goal
 
 told : (e k : Errno) (n : ℕ) → e ≡ k → n ≡ errno k → n ≡ errno e

@@ -1,6 +1,5 @@
 -- `calls::get_attribute` meets its contract.
 use Rattle.calls.proofs.Shape.{public}
-use borrow.Author.Rules.{rules}
 use Rattle.calls.proofs.get_attribute.Goals as goal
 
 pub returns : goal.returns

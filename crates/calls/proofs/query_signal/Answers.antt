@@ -1,6 +1,5 @@
 -- `calls::query_signal` meets its contract.
 use Rattle.calls.proofs.Shape.{public}
-use borrow.Author.Rules.{rules}
 use Rattle.calls.proofs.query_signal.Goals as goal
 
 pub returns : goal.returns

@@ -1,6 +1,5 @@
 -- `calls::read_distributor` meets its contract.
 use Rattle.calls.proofs.Shape.{public}
-use borrow.Author.Rules.{rules}
 use Rattle.calls.proofs.read_distributor.Goals as goal
 
 pub returns : goal.returns

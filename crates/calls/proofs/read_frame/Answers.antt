@@ -1,6 +1,5 @@
 -- `calls::read_frame` meets its contract.
 use Rattle.calls.proofs.Shape.{public}
-use borrow.Author.Rules.{rules}
 use Rattle.calls.proofs.read_frame.Goals as goal
 
 pub returns : goal.returns

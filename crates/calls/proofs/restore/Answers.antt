@@ -1,6 +1,5 @@
 -- `calls::restore` meets its contract.
 use Rattle.calls.proofs.Shape.{public}
-use borrow.Author.Rules.{rules}
 use Rattle.calls.proofs.restore.Goals as goal
 
 pub returns : goal.returns

@@ -1,6 +1,6 @@
 -- `calls::save` meets its contract.
 use mathlib.Core.Path.{refl}
-use borrow.Author.Rules.{rules, sfits_of}
+use borrow.Author.Rules.{sfits_of}
 use Rattle.calls.proofs.Fronts.{front_long, front-handed}
 use Rattle.calls.proofs.save.Goals as goal
 

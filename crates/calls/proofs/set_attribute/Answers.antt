@@ -1,6 +1,5 @@
 -- `calls::set_attribute` meets its contract.
 use Rattle.calls.proofs.Shape.{public}
-use borrow.Author.Rules.{rules}
 use Rattle.calls.proofs.set_attribute.Goals as goal
 
 pub returns : goal.returns

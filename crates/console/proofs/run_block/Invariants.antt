@@ -1,10 +1,8 @@
 -- `console::run_block` meets its contract: what is left of the block, read from here, gives what the whole block gives.
 use Prim.Native.Nat.{◌*◌, ◌-◌, ◌≤◌}
-use mathlib.Core.Path.{◌≡◌, refl}
-use borrow.Author.Rules.{rules}
+use mathlib.Core.Path.{◌≡◌}
 use lib.ListN.{length, drop}
 use Rattle.console.specs.Sessions.{block_read, stands}
-use Rattle.console.proofs.Ran.{byte_more, block-ends}
 use Rattle.console.proofs.run_block.Given as goal
 
 abbrev pub invariant-loop-i : goal.invariant-loop-i

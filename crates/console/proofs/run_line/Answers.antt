@@ -5,9 +5,9 @@ use Rattle.console.proofs.run_line.Goals as goal
 
 pub returns-in_default : goal.returns-in_default
 returns-in_default c = record {
-    state_after = search (bad-left, is-bad, c.in_default.not-Good);
-    out_after = search (bad-printed, is-bad, c.in_default.not-Good);
-    upper_bound = search rules;
+  state_after = search (bad-left, is-bad, c.in_default.not-Good);
+  out_after = search (bad-printed, is-bad, c.in_default.not-Good);
+  upper_bound = search rules;
 }
 
 pub returns : goal.returns

@@ -2,7 +2,6 @@
 use Rattle.model.specs.Calls.{describe}
 use Rattle.state.proofs.Admitted.{answering, admitted-size, admitted-few}
 use Rattle.lines.proofs.Changes.{line-admitted}
-use borrow.Author.Rules.{rules}
 use Rattle.lines.proofs.change_line.Goals as goal
 
 pub returns-in-Refuse : goal.returns-in-Refuse

@@ -1,6 +1,5 @@
 -- `lines::has_line` meets its contract.
 use Rattle.lines.proofs.Changes.{ppi-line, spi-line}
-use borrow.Author.Rules.{rules}
 use Rattle.lines.proofs.has_line.Goals as goal
 
 pub returns-then-id : goal.returns-then-id

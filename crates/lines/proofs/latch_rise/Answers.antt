@@ -1,6 +1,5 @@
 -- `lines::latch_rise` meets its contract.
 use Rattle.lines.proofs.Changes.{rise-latched, no-rise}
-use borrow.Author.Rules.{rules}
 use Rattle.lines.proofs.latch_rise.Goals as goal
 
 pub returns-then-rises : goal.returns-then-rises

@@ -1,6 +1,5 @@
 -- `lines::line_refusal` meets its contract.
 use Rattle.state.proofs.Admitted.{inside, refusing}
-use borrow.Author.Rules.{rules}
 use Rattle.lines.proofs.line_refusal.Goals as goal
 
 pub returns-then-not-is_sound : goal.returns-then-not-is_sound

@@ -2,7 +2,6 @@
 use Rattle.model.specs.Calls.{describe}
 use Rattle.state.proofs.Admitted.{answering}
 use Rattle.lines.proofs.Changes.{vcpu-usable}
-use borrow.Author.Rules.{rules}
 use Rattle.lines.proofs.query_signal.Goals as goal
 
 pub returns-in-Refuse : goal.returns-in-Refuse

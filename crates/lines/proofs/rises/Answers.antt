@@ -1,6 +1,5 @@
 -- `lines::rises` meets its contract.
 use Rattle.lines.specs.Lines.{rises_in}
-use borrow.Author.Rules.{rules}
 use Rattle.lines.proofs.rises.Goals as goal
 
 pub returns : goal.returns

@@ -1,6 +1,5 @@
 -- `attributes::item::control_takes` meets its contract.
 use Rattle.attributes.proofs.Items.{control-low, control-large, control-within}
-use borrow.Author.Rules.{rules}
 use Rattle.attributes.proofs.item.control_takes.Goals as goal
 
 pub returns-then-value-fixed : goal.returns-then-value-fixed

@@ -1,7 +1,6 @@
 -- `attributes::item::plain_takes` meets its contract.
 use Rattle.model.specs.Interface.{plain_takes}
 use Rattle.attributes.proofs.Items.{plain-control, plain-any}
-use borrow.Author.Rules.{rules}
 use Rattle.attributes.proofs.item.plain_takes.Goals as goal
 
 pub returns-in-Ctlr : goal.returns-in-Ctlr

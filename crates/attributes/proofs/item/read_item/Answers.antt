@@ -1,6 +1,5 @@
 -- `attributes::item::read_item` meets its contract.
 use Rattle.attributes.proofs.Items.{asked, reading}
-use borrow.Author.Rules.{rules}
 use Rattle.attributes.proofs.item.read_item.Goals as goal
 
 pub read_word-requires : goal.read_word-requires

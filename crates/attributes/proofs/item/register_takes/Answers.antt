@@ -1,7 +1,6 @@
 -- `attributes::item::register_takes` meets its contract.
 use Rattle.model.specs.Attributes.{register_takes}
 use Rattle.attributes.proofs.Items.{takes-any}
-use borrow.Author.Rules.{rules}
 use Rattle.attributes.proofs.item.register_takes.Goals as goal
 
 pub returns-in-Iidr : goal.returns-in-Iidr

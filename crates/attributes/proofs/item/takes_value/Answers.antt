@@ -1,6 +1,5 @@
 -- `attributes::item::takes_value` meets its contract.
 use Rattle.attributes.proofs.Items.{taking}
-use borrow.Author.Rules.{rules}
 use Rattle.attributes.proofs.item.takes_value.Goals as goal
 
 pub returns-in-Mapped : goal.returns-in-Mapped

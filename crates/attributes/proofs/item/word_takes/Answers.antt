@@ -1,5 +1,4 @@
 -- `attributes::item::word_takes` meets its contract.
-use borrow.Author.Rules.{rules}
 use Rattle.attributes.proofs.item.word_takes.Goals as goal
 
 pub returns : goal.returns

@@ -1,6 +1,5 @@
 -- `attributes::item::write_item` meets its contract.
 use Rattle.attributes.proofs.Items.{asked, writing}
-use borrow.Author.Rules.{rules}
 use Rattle.attributes.proofs.item.write_item.Goals as goal
 
 pub overflow_cast-value : goal.overflow_cast-value

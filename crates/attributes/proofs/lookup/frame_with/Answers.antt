@@ -1,6 +1,5 @@
 -- `attributes::lookup::frame_with` meets its contract.
 use Rattle.attributes.proofs.Placing.{frame_found, frame-missing}
-use borrow.Author.Rules.{rules}
 use Rattle.attributes.proofs.lookup.frame_with.Goals as goal
 
 pub returns-in-At : goal.returns-in-At

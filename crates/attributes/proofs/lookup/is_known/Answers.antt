@@ -1,6 +1,5 @@
 -- `attributes::lookup::is_known` meets its contract.
 use Rattle.model.specs.Attributes.{known}
-use borrow.Author.Rules.{rules}
 use Rattle.attributes.proofs.lookup.is_known.Goals as goal
 
 pub returns-in-Mapped : goal.returns-in-Mapped

@@ -1,6 +1,5 @@
 -- `attributes::lookup::item_at` meets its contract.
 use Rattle.attributes.specs.Names.{item_at}
-use borrow.Author.Rules.{rules}
 use Rattle.attributes.proofs.lookup.item_at.Goals as goal
 
 pub returns-in-Distributor : goal.returns-in-Distributor

@@ -2,7 +2,6 @@
 use Rattle.model.specs.Calls.{register_checks}
 use Rattle.state.proofs.Admitted.{inside}
 use Rattle.attributes.proofs.Naming.{naming, is-named}
-use borrow.Author.Rules.{rules}
 use Rattle.attributes.proofs.lookup.item_named.Goals as goal
 
 pub returns-then-not-is_sound : goal.returns-then-not-is_sound

@@ -1,6 +1,5 @@
 -- `attributes::lookup::lines_at` meets its contract.
 use Rattle.attributes.proofs.Placing.{lines-private, lines-shared}
-use borrow.Author.Rules.{rules}
 use Rattle.attributes.proofs.lookup.lines_at.Goals as goal
 
 pub returns-then-low_part-lt32 : goal.returns-then-low_part-lt32

@@ -1,6 +1,5 @@
 -- `attributes::lookup::mapped_at` meets its contract.
 use Rattle.attributes.proofs.Placing.{words}
-use borrow.Author.Rules.{rules}
 use Rattle.attributes.proofs.lookup.mapped_at.Goals as goal
 
 pub returns-then-number-ne0 : goal.returns-then-number-ne0

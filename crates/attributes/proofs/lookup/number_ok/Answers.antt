@@ -1,6 +1,5 @@
 -- `attributes::lookup::number_ok` meets its contract.
 use Rattle.model.specs.Attributes.{number_ok}
-use borrow.Author.Rules.{rules}
 use Rattle.attributes.proofs.lookup.number_ok.Goals as goal
 
 pub returns-in-Distributor : goal.returns-in-Distributor

@@ -7,7 +7,6 @@ use Rattle.model.specs.declared.RegisterGroup.{RegisterGroup}
 use Rattle.model.specs.declared.RegisterGroup.TheVariants.{Redistributor, Interface}
 use Rattle.attributes.specs.Names.{frame_with, place_of}
 use Rattle.attributes.specs.declared.Place.{Place}
-use borrow.Author.Rules.{rules}
 use Rattle.attributes.proofs.lookup.place_of.Goals as goal
 
 module _ (q : RegisterGroup) (a : ℕ) (s : List ℕ) (h : ℕ) (r : Place) (e : h ≡ high a) (f : r ≡ frame_with s h) where

@@ -1,6 +1,5 @@
 -- `attributes::lookup::system_at` meets its contract.
 use Rattle.attributes.proofs.Placing.{systems}
-use borrow.Author.Rules.{rules}
 use Rattle.attributes.proofs.lookup.system_at.Goals as goal
 
 pub returns-in_default : goal.returns-in_default

@@ -1,6 +1,5 @@
 -- `console::parse::digit_of` meets its contract.
 use Rattle.console.proofs.Hex.{digit}
-use borrow.Author.Rules.{rules}
 use Rattle.console.proofs.parse.digit_of.Goals as goal
 
 pub returns-then-x-lt48 : goal.returns-then-x-lt48

@@ -1,9 +1,6 @@
 -- `console::parse::field_end` meets its contract.
-use Prim.Native.Nat.{◌+◌, ◌-◌, ◌≤◌}
-use mathlib.Core.Path.{◌≡◌, refl}
+use mathlib.Core.Path.{refl}
 use borrow.Author.Rules.{rules}
-use lib.ListN.{length, drop}
-use Rattle.console.specs.Steps.{first}
 use Rattle.console.proofs.Spaces.{stops-here, stops-last, goes_on}
 use Rattle.console.proofs.parse.field_end.Goals as goal
 

@@ -1,10 +1,8 @@
 -- `console::parse::field_end` meets its contract.
 use Prim.Native.Nat.{◌+◌, ◌-◌, ◌≤◌}
-use mathlib.Core.Path.{◌≡◌, refl}
-use borrow.Author.Rules.{rules}
+use mathlib.Core.Path.{◌≡◌}
 use lib.ListN.{length, drop}
 use Rattle.console.specs.Steps.{first}
-use Rattle.console.proofs.Spaces.{stops-here, stops-last, goes_on}
 use Rattle.console.proofs.parse.field_end.Given as goal
 
 abbrev pub invariant-loop-i : goal.invariant-loop-i

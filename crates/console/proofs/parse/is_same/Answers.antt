@@ -1,9 +1,6 @@
 -- `console::parse::is_same` meets its contract.
-use Prim.Native.Nat.{◌-◌, ◌≤◌}
-use mathlib.Core.Path.{◌≡◌, refl}
+use mathlib.Core.Path.{refl}
 use borrow.Author.Rules.{rules}
-use lib.ListN.{length, drop}
-use Rattle.console.specs.Text.{same}
 use Rattle.console.proofs.Spaces.{not_as_long, differs, agrees, the_same}
 use Rattle.console.proofs.parse.is_same.Goals as goal
 

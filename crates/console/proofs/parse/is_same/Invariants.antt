@@ -1,10 +1,8 @@
 -- `console::parse::is_same` meets its contract.
 use Prim.Native.Nat.{◌-◌, ◌≤◌}
-use mathlib.Core.Path.{◌≡◌, refl}
-use borrow.Author.Rules.{rules}
+use mathlib.Core.Path.{◌≡◌}
 use lib.ListN.{length, drop}
 use Rattle.console.specs.Text.{same}
-use Rattle.console.proofs.Spaces.{not_as_long, differs, agrees, the_same}
 use Rattle.console.proofs.parse.is_same.Given as goal
 
 abbrev pub invariant-loop-i : goal.invariant-loop-i

@@ -1,6 +1,5 @@
 -- `console::parse::parse_line` meets its contract.
 use Rattle.console.proofs.Spaces.{too_long, cut-length, word-and-numbers}
-use borrow.Author.Rules.{rules}
 use Rattle.console.proofs.parse.parse_line.Goals as goal
 
 pub returns-then-line-gt-MOST_CHARACTERS : goal.returns-then-line-gt-MOST_CHARACTERS

@@ -1,10 +1,7 @@
 -- `console::parse::read_number` meets its contract.
-use Prim.Native.Nat.{◌-◌, ◌^◌, ◌<◌, ◌≤◌}
-use mathlib.Core.Path.{◌≡◌, refl}
+use mathlib.Core.Path.{refl}
 use borrow.Author.Rules.{rules}
 use lib.Dec.{lit≤}
-use lib.ListN.{length, drop}
-use Rattle.console.specs.Text.{digits_after}
 use Rattle.console.proofs.Hex.{no-number-empty, no-number-long, not-a-digit, all_digits, digit-more, grows, times-fits, plus-fits}
 use Rattle.console.proofs.parse.read_number.Goals as goal
 

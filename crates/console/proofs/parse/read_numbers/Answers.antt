@@ -1,11 +1,6 @@
 -- `console::parse::read_numbers` meets its contract.
-use Prim.Native.Nat.{◌-◌, ◌≤◌}
-use mathlib.Core.Path.{◌≡◌, refl}
+use mathlib.Core.Path.{refl}
 use borrow.Author.Rules.{rules}
-use lib.ListN.{length, drop}
-use Rattle.console.specs.declared.Numbers.TheVariants.{Zero}
-use Rattle.console.specs.Text.{numbers}
-use Rattle.console.specs.Steps.{spaced}
 use Rattle.console.proofs.Spaces.{one_field, no_field}
 use Rattle.console.proofs.parse.read_numbers.Goals as goal
 

@@ -1,12 +1,10 @@
 -- `console::parse::read_numbers` meets its contract.
 use Prim.Native.Nat.{◌-◌, ◌≤◌}
-use mathlib.Core.Path.{◌≡◌, refl}
-use borrow.Author.Rules.{rules}
+use mathlib.Core.Path.{◌≡◌}
 use lib.ListN.{length, drop}
 use Rattle.console.specs.declared.Numbers.TheVariants.{Zero}
 use Rattle.console.specs.Text.{numbers}
 use Rattle.console.specs.Steps.{spaced}
-use Rattle.console.proofs.Spaces.{one_field, no_field}
 use Rattle.console.proofs.parse.read_numbers.Given as goal
 
 abbrev pub invariant-loop-at : goal.invariant-loop-at

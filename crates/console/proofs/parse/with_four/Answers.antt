@@ -1,7 +1,6 @@
 -- `console::parse::with_four` meets its contract.
 use Rattle.console.specs.Text.{rows}
 use Rattle.console.proofs.Words.{words}
-use borrow.Author.Rules.{rules}
 use Rattle.console.proofs.parse.with_four.Goals as goal
 
 pub returns-then-is_same : goal.returns-then-is_same

@@ -1,9 +1,5 @@
 -- `console::print::append` meets its contract.
-use Prim.Native.Nat.{◌+◌, ◌-◌, ◌≤◌}
-use mathlib.Core.Path.{◌≡◌}
-use mathlib.Core.List.{◌++◌}
 use borrow.Author.Rules.{rules}
-use lib.ListN.{length, take}
 use Rattle.console.proofs.Texts.{nothing_yet, one_byte, all-bytes}
 use Rattle.console.proofs.print.append.Goals as goal
 

@@ -2,9 +2,7 @@
 use Prim.Native.Nat.{◌+◌, ◌-◌, ◌≤◌}
 use mathlib.Core.Path.{◌≡◌}
 use mathlib.Core.List.{◌++◌}
-use borrow.Author.Rules.{rules}
 use lib.ListN.{length, take}
-use Rattle.console.proofs.Texts.{nothing_yet, one_byte, all-bytes}
 use Rattle.console.proofs.print.append.Given as goal
 
 abbrev pub invariant-loop-i : goal.invariant-loop-i

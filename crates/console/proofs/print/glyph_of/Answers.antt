@@ -1,5 +1,4 @@
 -- `console::print::glyph_of` meets its contract.
-use borrow.Author.Rules.{rules}
 use Rattle.console.proofs.Hex.{decimal-glyph, letter-glyph}
 use Rattle.console.proofs.print.glyph_of.Goals as goal
 

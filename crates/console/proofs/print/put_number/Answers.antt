@@ -1,6 +1,5 @@
 -- `console::print::put_number` meets its contract.
 use Rattle.console.proofs.Texts.{number_put, number-room}
-use borrow.Author.Rules.{rules}
 use Rattle.console.proofs.print.put_number.Goals as goal
 
 pub returns : goal.returns

@@ -1,10 +1,8 @@
 -- `console::print::spell` meets its contract: the digits that are left stand in front of those that are spelled.
 use Prim.Native.Nat.{◌≤◌}
 use mathlib.Core.Path.{◌≡◌}
-use borrow.Author.Rules.{rules}
 use lib.ListN.{length, drop}
 use Rattle.console.specs.Answers.{digits, number_line}
-use Rattle.console.proofs.Hex.{spelling, last-digit, next-digit, no_more, remains, as_long, stored-as-long}
 use Rattle.console.proofs.print.spell.Given as goal
 
 abbrev pub invariant-loop-at : goal.invariant-loop-at
