@@ -52,12 +52,17 @@ unfolding block_read
 answered_none s l had held = record { read_on = record { input = []; words = refl; line = refl }; taken = Consumes-nil had; put = Appends-nil held }
 
 -- a block was read
+abbrev pub read-block : (s l out : List ℕ) (n : ℕ) (s' l' out' : List ℕ) (k p : ℕ) (block : List ℕ) → stands s' l' k out' p ≡ block_read (stands s l n out 0) block
+    → ReadOn (begins s (take n l)) s' (take k l')
+read-block s l out n s' l' out' k p block e = record { input = block; words = ap (λ (t : Session). t.words) e; line = ap (λ (t : Session). t.line) e }
+
+-- and its answers were written
 pub answered_block : (s l : List ℕ) (n : ℕ) (s' l' out' : List ℕ) (k p : ℕ) (block took put : List ℕ) (had has held holds : Option (List ℕ))
     → stands s' l' k out' p ≡ block_read (begins s (take n l)) block → Consumes had has took → took ≡ block → Appends held holds put → put ≡ take p out'
     → Answered (begins s (take n l)) had has held holds s' (take k l')
 answered_block s l n s' l' out' k p block took put had has held holds e c u a v =
     record {
-      read_on = record { input = block; words = ap (λ (t : Session). t.words) e; line = ap (λ (t : Session). t.line) e };
+      read_on = read-block s l [] n s' l' out' k p block e;
       taken = subst (Consumes had has) u c;
       put = subst (Appends held holds) (v ∙ ap (λ (t : Session). t.text) e) a;
     }

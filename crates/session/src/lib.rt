@@ -92,7 +92,7 @@ fn read_all<R: Read, W: Write>(
     Ok(kept)
 }
 
-// Makes a device and runs the lines of the input on it.
+// Makes a device and runs the lines of the input on it. Where a read or a write fails, the device is gone, and nothing is said of what was written.
 pub fn run<R: Read, W: Write>(from: &mut R, to: &mut W) -> io::Result<()>
     ensures { OnOk result (IfSome (R.remaining from.old) (λ input. length input < 2 ^ 64 - 1 → Appends (W.contents to.old) (W.contents to.new) (drill input))) }
 {
