@@ -280,6 +280,12 @@ fn frames(out: &mut impl Write) -> io::Result<()> {
     frame_row(out, b"TYPER high", [0xc, 0xffff_ffff, 0xc, 0x0])?;
     frame_row(out, b"STATUSR", [0x10, 0x1, 0x10, 0x4])?;
     frame_row(out, b"WAKER", [0x14, 0x0, 0x14, 0xffff_ffff])?;
+    frame_flags(out)?;
+    frame_fields(out)
+}
+
+// The words with one bit for each interrupt.
+fn frame_flags(out: &mut impl Write) -> io::Result<()> {
     frame_row(
         out,
         b"IGROUPR",
@@ -314,7 +320,11 @@ fn frames(out: &mut impl Write) -> io::Result<()> {
         out,
         b"ICACTIVER",
         [0x1_0300, 0xffff_0000, 0x1_0380, 0x00ff_00ff],
-    )?;
+    )
+}
+
+// Priorities and edge flags.
+fn frame_fields(out: &mut impl Write) -> io::Result<()> {
     frame_row(
         out,
         b"IPRIORITYR",
@@ -742,8 +752,8 @@ fn level_and_edge(out: &mut impl Write, s: &mut [u32; 1760]) -> io::Result<()> {
     step(out, s, b"edge: line down, latched", Call::Line(40, false))
 }
 
-// SPI 57, which is bit 25: its edge flag changes while the line is high; then group 7.
-fn flags_and_lines(out: &mut impl Write, s: &mut [u32; 1760]) -> io::Result<()> {
+// SPI 57, which is bit 25: its edge flag changes while the line is high.
+fn flags_by_line(out: &mut impl Write, s: &mut [u32; 1760]) -> io::Result<()> {
     step(out, s, b"level: line up", Call::Line(57, true))?;
     step(out, s, b"line high: made edge", Call::Write(0xc0c, 0x80000))?;
     step(out, s, b"edge: line up again", Call::Line(57, true))?;
@@ -773,7 +783,11 @@ fn flags_and_lines(out: &mut impl Write, s: &mut [u32; 1760]) -> io::Result<()> 
         s,
         b"latch cleared by attribute",
         Call::Set(1, 0x204, 0x0),
-    )?;
+    )
+}
+
+// SPI 57 is edge again, and group 7 sets its line.
+fn lines_by_attribute(out: &mut impl Write, s: &mut [u32; 1760]) -> io::Result<()> {
     step(out, s, b"made edge again", Call::Write(0xc0c, 0x80000))?;
     step(
         out,
@@ -919,7 +933,8 @@ fn main(rt: HostRuntime) -> io::Result<()> {
     let mut s = device(64);
     level_and_edge(&mut out, &mut s)?;
     let mut t = device(64);
-    flags_and_lines(&mut out, &mut t)?;
+    flags_by_line(&mut out, &mut t)?;
+    lines_by_attribute(&mut out, &mut t)?;
     say(
         &mut out,
         b"PPIs: answer and lines, latches, pending of the three vCPUs\n",
