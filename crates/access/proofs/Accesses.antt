@@ -1,4 +1,5 @@
 -- What a guest's access reads and writes, by its size and by what its offset decodes to.
+use Rattle.std.specs.Prelude.{Some, None, Ok, Err}
 use Prim.Native.Nat.{ℕ, ◌*◌, ◌%◌, ◌/◌, ◌^◌, ◌≤◌, ◌<◌}
 use mathlib.Core.Path.{◌≡◌, refl, sym, ◌∙◌}
 use mathlib.Core.Bool.{Bool, true, false, cond, ◌&&◌, true≢false}
@@ -10,21 +11,17 @@ use mir.Syntax.{w64}
 use mir.Val.{Fits}
 use Rattle.model.specs.Layout.{most_vcpus, vcpus, running}
 use Rattle.model.specs.Sound.{sound}
-use Rattle.model.specs.Refusals.{first_failing}
+use Rattle.model.specs.Refusals.{Refusal, first_failing}
 use Rattle.model.specs.Calls.{is_vcpu, vcpu_checks, guest_checks, frame_checks}
 use Rattle.model.specs.declared.Phase.{Phase}
-use Rattle.model.specs.Registers.{decode, rows, banks, words_of, seen_by, read, write, write_priority, Access, whole, one, none, access, by_byte, read_access, write_access, guest_read, guest_write}
+use Rattle.model.specs.Registers.{Decoded, decode, rows, banks, words_of, seen_by, read, write, write_priority, Access, whole, one, none, access, by_byte, read_access, write_access, guest_read, guest_write}
 use Rattle.model.specs.declared.Errno.{Errno}
 use Rattle.model.specs.declared.Errno.TheVariants.{Eperm, Efault, Einval}
-use Rattle.model.specs.declared.Refusal.{Refusal}
-use Rattle.model.specs.declared.Refusal.TheVariants.{None, Refuse}
 use Rattle.model.specs.declared.By.TheVariants.{Guest}
 use Rattle.model.specs.declared.View.{View}
 use Rattle.model.specs.declared.View.TheVariants.{Frame}
 use Rattle.model.specs.declared.Register.{Register}
 use Rattle.model.specs.declared.Register.TheVariants.{Fixed, Control, Typer, Iidr, Status, Bits, Priority, Config, Route, FrameTyper, FrameAffinity}
-use Rattle.model.specs.declared.Decoded.{Decoded}
-use Rattle.model.specs.declared.Decoded.TheVariants.{Listed, Unlisted}
 use Rattle.model.proofs.Tests.{both}
 use Rattle.model.proofs.Refused.{none_then, fails-then, twice, after}
 use Rattle.model.proofs.Decode.{decode-words}
@@ -78,25 +75,25 @@ module _ (off size : ℕ) where
 -- ---- an offset of a view, and what it decodes to
 
 module _ (s : List ℕ) (x : View) (off size : ℕ) (d : Decoded) (e : d ≡ decode (rows x) off) where
-  pub reads-unlisted : d ≡ Unlisted → 0 ≡ guest_read s x off size
+  pub reads-unlisted : d ≡ None → 0 ≡ guest_read s x off size
   unfolding guest_read
   reads-unlisted h = rw (← e, h) (nothing (access off size))
     where
-      nothing : (a : Access) → 0 ≡ read_access a s x Unlisted (off % 4)
+      nothing : (a : Access) → 0 ≡ read_access a s x None (off % 4)
       nothing whole = unfold read_access in refl
       nothing one = unfold read_access in refl
       nothing none = unfold read_access in refl
 
-  pub writes-unlisted : (value : ℕ) → d ≡ Unlisted → s ≡ guest_write s x off size value
+  pub writes-unlisted : (value : ℕ) → d ≡ None → s ≡ guest_write s x off size value
   unfolding guest_write
   writes-unlisted value h = rw (← e, h) (nothing (access off size))
     where
-      nothing : (a : Access) → s ≡ write_access a s x Unlisted (off % 4) value
+      nothing : (a : Access) → s ≡ write_access a s x None (off % 4) value
       nothing whole = unfold write_access in refl
       nothing one = unfold write_access in refl
       nothing none = unfold write_access in refl
 
-  module _ (r : Register) (k : ℕ) (h : d ≡ Listed r k) where
+  module _ (r : Register) (k : ℕ) (h : d ≡ Some (r, k)) where
     pub listed-word : k < words_of x r
     listed-word = decode-words x off r k (sym e ∙ h)
 
@@ -130,7 +127,7 @@ module _ (s : List ℕ) (x : View) (off size : ℕ) (d : Decoded) (e : d ≡ dec
       unfolding guest_read
       reads-less t = rw (← e, h, access-less off size n) (nothing (eqb size 1) t)
         where
-          nothing : (u : Bool) → (u && b) ≡ false → 0 ≡ read_access (cond u one none) s x (Listed r k) (off % 4)
+          nothing : (u : Bool) → (u && b) ≡ false → 0 ≡ read_access (cond u one none) s x (Some (r, k)) (off % 4)
           nothing true f = unfold read_access in (rw (← g, f))
           nothing false f = unfold read_access in refl
 
@@ -138,7 +135,7 @@ module _ (s : List ℕ) (x : View) (off size : ℕ) (d : Decoded) (e : d ≡ dec
       unfolding guest_write
       writes-less value t = rw (← e, h, access-less off size n) (nothing (eqb size 1) t)
         where
-          nothing : (u : Bool) → (u && b) ≡ false → s ≡ write_access (cond u one none) s x (Listed r k) (off % 4) value
+          nothing : (u : Bool) → (u && b) ≡ false → s ≡ write_access (cond u one none) s x (Some (r, k)) (off % 4) value
           nothing true f = unfold write_access in (rw (← g, f))
           nothing false f = unfold write_access in refl
 
@@ -153,23 +150,27 @@ byte_put s t x k byte value w e q = let r : value % 256 % 256 ≡ value % 256 = 
 
 -- the tests of a call that names a vCPU come first
 module _ (s : List ℕ) (a : Phase) (v f : ℕ) (q : Refusal) (p : q ≡ first_failing ((sound s, Efault) ∷ vcpu_checks a v s)) where
-  pub front-frame : (e : Errno) → q ≡ Refuse e → Refuse e ≡ first_failing ((sound s, Efault) ∷ frame_checks a v f s)
+  pub front-frame : (e : Errno) → q ≡ Err e → Err e ≡ first_failing ((sound s, Efault) ∷ frame_checks a v f s)
   unfolding frame_checks
   front-frame e h = sym (fails-then ((sound s, Efault) ∷ vcpu_checks a v s) ((is_vcpu s f, Einval) ∷ (eqb (running s v) 1, Eperm) ∷ []) e (sym p ∙ h))
 
-  pub rest-frame : (r : Refusal) → q ≡ None → r ≡ first_failing ((is_vcpu s f, Einval) ∷ (eqb (running s v) 1, Eperm) ∷ []) → r ≡ first_failing ((sound s, Efault) ∷ frame_checks a v f s)
+  pub rest-frame : (r : Refusal) → q ≡ Ok tt → r ≡ first_failing ((is_vcpu s f, Einval) ∷ (eqb (running s v) 1, Eperm) ∷ []) → r ≡ first_failing ((sound s, Efault) ∷ frame_checks a v f s)
   unfolding frame_checks
   rest-frame r n e = e ∙ sym (none_then ((sound s, Efault) ∷ vcpu_checks a v s) ((is_vcpu s f, Einval) ∷ (eqb (running s v) 1, Eperm) ∷ []) (sym p ∙ n))
 
 -- where they hold
-module _ (s : List ℕ) (a : Phase) (v : ℕ) (q : Refusal) (p : q ≡ first_failing ((sound s, Efault) ∷ vcpu_checks a v s)) (n : q ≡ None) where
+module _ (s : List ℕ) (a : Phase) (v : ℕ) (q : Refusal) (p : q ≡ first_failing ((sound s, Efault) ∷ vcpu_checks a v s)) (n : q ≡ Ok tt) where
   front-few : vcpus s ≤ most_vcpus
   front-few = sound-vcpus s (admitted s q (vcpu_checks a v s) p n).0
+
+  -- an index below their number has a block
+  pub front-index : (f : ℕ) → f < vcpus s → f < most_vcpus
+  front-index f l = omega (arith, front-few)
 
   pub front_fits : Fits w64 (vcpus s)
   front_fits = record { fits = omega (arith, front-few) }
 
-pub frame-inside : (s : List ℕ) (r : Refusal) (a : Phase) (v f : ℕ) (x : View) → r ≡ first_failing ((sound s, Efault) ∷ frame_checks a v f s) → r ≡ None → x ≡ Frame f → seen_by x < most_vcpus
+pub frame-inside : (s : List ℕ) (r : Refusal) (a : Phase) (v f : ℕ) (x : View) → r ≡ first_failing ((sound s, Efault) ∷ frame_checks a v f s) → r ≡ Ok tt → x ≡ Frame f → seen_by x < most_vcpus
 unfolding frame_checks seen_by
 frame-inside s r a v f x e n q =
     let p = admitted s r (frame_checks a v f s) e n in

@@ -10,11 +10,11 @@ ghost use Rattle.model.specs.Calls.{Does, call, guest_checks, frame_checks, read
 ghost use Rattle.model.specs.declared.Errno.TheVariants.{Efault};
 ghost use Rattle.model.specs.declared.SystemRegister.TheVariants.{Read};
 
-use model::layout::VCPUS;
-use model::{Answer, By, Decoded, Errno, Phase, Readable, Refusal, Register, SystemRegister, View};
+use model::layout::{STATE_LENGTH, State, VCPUS};
+use model::{By, Errno, Phase, Readable, Register, SystemRegister, View};
 use registers::decode::register_at;
 use registers::{Bytes, frame_view, read_word, write_priority, write_word};
-use state::{VcpuIndex, running_of, vcpu_refusal};
+use state::{Vcpu, VcpuIndex, check_vcpu, running_of};
 use system::decode::register_of;
 use system::{read_register, write_register};
 use words::{byte_of, byte_shifted};
@@ -22,48 +22,43 @@ use words::{byte_of, byte_shifted};
 // ---- refusals
 
 // 14 not sound; 16 another phase; 22 no such vCPU or frame; 1 not running.
-fn frame_refusal(s: &[u32], phase: Phase, v: VcpuIndex, frame: VcpuIndex) -> Refusal
+fn check_frame(s: &State, phase: Phase, v: VcpuIndex, frame: VcpuIndex) -> Result<(), Errno>
     ensures { result ≡ first_failing ((sound s.now, Efault) ∷ frame_checks phase v.0 frame.0 s.now) }
 {
-    if let Refusal::Refuse(e) = vcpu_refusal(s, phase, v) {
-        return Refusal::Refuse(e);
-    }
+    check_vcpu(s, phase, v)?;
     let n = s[VCPUS] as usize;
     if frame.0 >= n {
-        return Refusal::Refuse(Errno::Einval);
+        return Err(Errno::Einval);
     }
-    if running_of(s, v) != 1 {
-        return Refusal::Refuse(Errno::Eperm);
+    if running_of(s, Vcpu::at(v)) != 1 {
+        return Err(Errno::Eperm);
     }
-    Refusal::None
+    Ok(())
 }
 
 // The same for the distributor and for system registers: an access to them is tested as one to the vCPU's own frame.
-fn guest_refusal(s: &[u32], phase: Phase, v: VcpuIndex) -> Refusal
+fn check_guest(s: &State, phase: Phase, v: VcpuIndex) -> Result<(), Errno>
     ensures { result ≡ first_failing ((sound s.now, Efault) ∷ guest_checks phase v.0 s.now) }
 {
-    frame_refusal(s, phase, v, v)
+    check_frame(s, phase, v, v)
 }
 
 // ---- one access: 4 bytes aligned, or 1 byte in IPRIORITYR; all else reads 0 and ignores writes
 
 // IPRIORITYR alone takes one byte.
+#[tactic(auto, unfolding(model::specs::Registers::by_byte))]
 fn by_byte(register: Register) -> bool
     ensures { result ≡ by_byte register }
 {
-    if let Register::Priority = register {
-        true
-    } else {
-        false
-    }
+    matches!(register, Register::Priority)
 }
 
 // What an access of a view reads.
-fn guest_read(s: &[u32], view: View, offset: u64, size: u64) -> u32
+fn guest_read(s: &State, view: View, offset: u64, size: u64) -> u32
     requires { (sound s.now ≡ true) × (seen_by view < most_vcpus) }
     ensures { result ≡ guest_read s.now view offset size }
 {
-    let Decoded::Listed(register, k) = register_at(view, offset) else {
+    let Some((register, k)) = register_at(view, offset) else {
         return 0;
     };
     if (size == 4) & (offset % 4 == 0) {
@@ -79,7 +74,7 @@ fn guest_read(s: &[u32], view: View, offset: u64, size: u64) -> u32
 }
 
 // Writes one byte of IPRIORITYR.
-fn write_byte(s: &mut [u32], view: View, k: usize, byte: u32, value: u64)
+fn write_byte(s: &mut State, view: View, k: usize, byte: u32, value: u64)
     requires { (sound s.old ≡ true) × (seen_by view < most_vcpus) × (k < 8 * banks view) × (byte < 4) }
     ensures { s.new ≡ write_priority s.old view (λ i. eqb i byte) k (value % 256 * 2 ^ (8 * byte)) }
 {
@@ -93,11 +88,11 @@ fn write_byte(s: &mut [u32], view: View, k: usize, byte: u32, value: u64)
 }
 
 // Writes by an access of a view, the low bits of its size.
-fn guest_write(s: &mut [u32], view: View, offset: u64, size: u64, value: u64)
+fn guest_write(s: &mut State, view: View, offset: u64, size: u64, value: u64)
     requires { (sound s.old ≡ true) × (seen_by view < most_vcpus) }
     ensures { s.new ≡ guest_write s.old view offset size value }
 {
-    let Decoded::Listed(register, k) = register_at(view, offset) else {
+    let Some((register, k)) = register_at(view, offset) else {
         return;
     };
     if (size == 4) & (offset % 4 == 0) {
@@ -119,34 +114,49 @@ fn guest_write(s: &mut [u32], view: View, offset: u64, size: u64, value: u64)
 // ---- the distributor and the frames
 
 // Reads the distributor.
-pub fn read_distributor(s: &[u32], v: VcpuIndex, offset: u64, size: u64) -> Answer
+pub fn read_distributor(s: &[u32], v: VcpuIndex, offset: u64, size: u64) -> Result<u32, Errno>
     ensures { Does (call (read_distributor v.0 offset size) s.now) (number result) s.now [] }
 {
-    if let Refusal::Refuse(e) = guest_refusal(s, Phase::Initialised, v) {
-        return Answer::Refused(e);
-    }
-    Answer::Value(guest_read(s, View::Distributor, offset, size))
+    let Some(s) = s.as_array::<STATE_LENGTH>() else {
+        return Err(Errno::Efault);
+    };
+    check_guest(s, Phase::Initialised, v)?;
+    Ok(guest_read(s, View::Distributor, offset, size))
 }
 
 // Writes the distributor.
-pub fn write_distributor(s: &mut [u32], v: VcpuIndex, offset: u64, size: u64, value: u64) -> Answer
+pub fn write_distributor(
+    s: &mut [u32],
+    v: VcpuIndex,
+    offset: u64,
+    size: u64,
+    value: u64,
+) -> Result<u32, Errno>
     ensures { Does (call (write_distributor v.0 offset size value) s.old) (number result) s.new [] }
 {
-    if let Refusal::Refuse(e) = guest_refusal(s, Phase::Changing, v) {
-        return Answer::Refused(e);
-    }
+    let Some(s) = s.as_mut_array::<STATE_LENGTH>() else {
+        return Err(Errno::Efault);
+    };
+    check_guest(s, Phase::Changing, v)?;
     guest_write(s, View::Distributor, offset, size, value);
-    Answer::Value(0)
+    Ok(0)
 }
 
 // Reads a redistributor frame.
-pub fn read_frame(s: &[u32], v: VcpuIndex, frame: VcpuIndex, offset: u64, size: u64) -> Answer
+pub fn read_frame(
+    s: &[u32],
+    v: VcpuIndex,
+    frame: VcpuIndex,
+    offset: u64,
+    size: u64,
+) -> Result<u32, Errno>
     ensures { Does (call (read_frame v.0 frame.0 offset size) s.now) (number result) s.now [] }
 {
-    if let Refusal::Refuse(e) = frame_refusal(s, Phase::Initialised, v, frame) {
-        return Answer::Refused(e);
-    }
-    Answer::Value(guest_read(s, frame_view(frame), offset, size))
+    let Some(s) = s.as_array::<STATE_LENGTH>() else {
+        return Err(Errno::Efault);
+    };
+    check_frame(s, Phase::Initialised, v, frame)?;
+    Ok(guest_read(s, frame_view(frame), offset, size))
 }
 
 // Writes a redistributor frame.
@@ -157,58 +167,52 @@ pub fn write_frame(
     offset: u64,
     size: u64,
     value: u64,
-) -> Answer
+) -> Result<u32, Errno>
     ensures { Does (call (write_frame v.0 frame.0 offset size value) s.old) (number result) s.new [] }
 {
-    if let Refusal::Refuse(e) = frame_refusal(s, Phase::Changing, v, frame) {
-        return Answer::Refused(e);
-    }
+    let Some(s) = s.as_mut_array::<STATE_LENGTH>() else {
+        return Err(Errno::Efault);
+    };
+    check_frame(s, Phase::Changing, v, frame)?;
     guest_write(s, frame_view(frame), offset, size, value);
-    Answer::Value(0)
+    Ok(0)
 }
 
 // ---- system registers
 
-// The phase that a read of a register that is only read asks for: an acknowledge changes interrupts.
-fn only_phase(register: Readable) -> Phase
-    ensures { result ≡ read_phase (Read register) }
-{
-    match register {
-        Readable::Iar(_) => Phase::Changing,
-        Readable::Hppir(_) => Phase::Initialised,
-        Readable::Rpr => Phase::Initialised,
-    }
-}
-
-// The phase that a read asks for.
+// The phase that a read asks for: an acknowledge changes interrupts.
+#[tactic(auto, unfolding(model::specs::Calls::read_phase))]
 fn read_phase(register: SystemRegister) -> Phase
     ensures { result ≡ read_phase register }
 {
     match register {
-        SystemRegister::Both(_) => Phase::Initialised,
-        SystemRegister::Read(only) => only_phase(only),
-        SystemRegister::Write(_) => Phase::Initialised,
-        SystemRegister::Unnamed => Phase::Initialised,
+        SystemRegister::Read(Readable::Iar(_)) => Phase::Changing,
+        SystemRegister::Read(Readable::Hppir(_) | Readable::Rpr)
+        | SystemRegister::Both(_)
+        | SystemRegister::Write(_)
+        | SystemRegister::Unnamed => Phase::Initialised,
     }
 }
 
 // Reads a system register.
-pub fn read_system(s: &mut [u32], v: VcpuIndex, encoding: u64) -> Answer
+pub fn read_system(s: &mut [u32], v: VcpuIndex, encoding: u64) -> Result<u32, Errno>
     ensures { Does (call (read_system v.0 encoding) s.old) (number result) s.new [] }
 {
+    let Some(s) = s.as_mut_array::<STATE_LENGTH>() else {
+        return Err(Errno::Efault);
+    };
     let register = register_of(encoding);
-    if let Refusal::Refuse(e) = guest_refusal(s, read_phase(register), v) {
-        return Answer::Refused(e);
-    }
-    read_register(s, v, register)
+    check_guest(s, read_phase(register), v)?;
+    read_register(s, Vcpu::at(v), register)
 }
 
 // Writes a system register.
-pub fn write_system(s: &mut [u32], v: VcpuIndex, encoding: u64, value: u64) -> Answer
+pub fn write_system(s: &mut [u32], v: VcpuIndex, encoding: u64, value: u64) -> Result<u32, Errno>
     ensures { Does (call (write_system v.0 encoding value) s.old) (number result) s.new [] }
 {
-    if let Refusal::Refuse(e) = guest_refusal(s, Phase::Changing, v) {
-        return Answer::Refused(e);
-    }
-    write_register(s, v, register_of(encoding), value)
+    let Some(s) = s.as_mut_array::<STATE_LENGTH>() else {
+        return Err(Errno::Efault);
+    };
+    check_guest(s, Phase::Changing, v)?;
+    write_register(s, Vcpu::at(v), register_of(encoding), value)
 }

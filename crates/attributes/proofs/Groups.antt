@@ -1,47 +1,34 @@
 -- A call by the group that its number means.
+use Rattle.std.specs.Prelude.{Ok, Err}
 use Prim.Native.Nat.{ℕ}
-use mathlib.Core.Path.{◌≡◌, refl, sym, ◌∙◌}
+use mathlib.Core.Path.{◌≡◌, refl}
 use mathlib.Core.Bool.{false}
 use mathlib.Core.List.{List, [], ◌∷◌}
-use borrow.Author.Tests.{ne_eqb}
-use lib.IntN.{ℤ}
 use Rattle.model.specs.Sound.{sound}
-use Rattle.model.specs.Refusals.{first_failing, number}
+use Rattle.model.specs.Refusals.{Refusal, first_failing}
 use Rattle.model.specs.Attributes.{group_of}
-use Rattle.model.specs.Calls.{Call, Does, call, get_attribute, set_attribute, lent_to, filled, get_checks, set_checks, refusal, settle, value, next_core, describe}
-use Rattle.model.specs.declared.Errno.{Errno}
+use Rattle.model.specs.Calls.{Call, call, get_attribute, set_attribute, lent_to, filled, get_checks, set_checks, refusal, settle, value, next_core, describe}
 use Rattle.model.specs.declared.Errno.TheVariants.{Efault, Enxio}
-use Rattle.model.specs.declared.Refusal.{Refusal}
-use Rattle.model.specs.declared.Refusal.TheVariants.{None, Refuse}
-use Rattle.model.specs.declared.Answer.TheVariants.{Refused}
 use Rattle.model.specs.declared.AttributeGroup.{AttributeGroup}
 use Rattle.model.specs.declared.AttributeGroup.TheVariants.{Registers, Count, Initialise, Unknown}
-use Rattle.model.specs.declared.RegisterGroup.{RegisterGroup}
-use Rattle.model.proofs.Refused.{refusal-list, refuses}
+use Rattle.model.proofs.Refused.{refusal-list}
 use Rattle.attributes.specs.Names.{group_number}
 use Rattle.attributes.proofs.Naming.{group-of}
 
--- ---- the group that a number means
+-- ---- a number of each group
 
-pub means : (g n : ℕ) (k : AttributeGroup) → g ≡ n → k ≡ group_of n → k ≡ group_of g
-means g n k e h = rw e h
+abbrev pub number_of : AttributeGroup → ℕ
+number_of (Registers q) = group_number q
+number_of Count = 3
+number_of Initialise = 4
+number_of Unknown = 0
 
-pub means-none : (g : ℕ) → (g ≡ 1 → ⊥) → (g ≡ 3 → ⊥) → (g ≡ 4 → ⊥) → (g ≡ 5 → ⊥) → (g ≡ 6 → ⊥) → (g ≡ 7 → ⊥) → Unknown ≡ group_of g
+numbered : (k : AttributeGroup) → group_of (number_of k) ≡ k
 unfolding group_of
-means-none g a b c d e f = rw (ne_eqb g 1 a, ne_eqb g 3 b, ne_eqb g 4 c, ne_eqb g 5 d, ne_eqb g 6 e, ne_eqb g 7 f)
-
--- ---- the numbers of the groups
-
-pub register-number : (q : RegisterGroup) → Registers q ≡ group_of (group_number q)
-register-number q = sym (group-of q)
-
-pub count-number : Count ≡ group_of 3
-unfolding group_of
-count-number = refl
-
-pub initialise-number : Initialise ≡ group_of 4
-unfolding group_of
-initialise-number = refl
+numbered (Registers q) = group-of q
+numbered Count = refl
+numbered Initialise = refl
+numbered Unknown = refl
 
 -- ---- a call does what that of another number does which means the same group
 
@@ -50,32 +37,34 @@ unfolding call
 alike c d s r v n l f = rw r (step (refusal d s))
   where
     step : (f : Refusal) → settle f c s ≡ settle f d s
-    step None = unfold settle in (rw (v, n, f))
-    step (Refuse e) = unfold settle in (rw l)
+    step (Ok tt) = unfold settle in (rw (v, n, f))
+    step (Err e) = unfold settle in (rw l)
 
-module _ (d k : AttributeGroup) (g n a : ℕ) (s : List ℕ) (r : ℤ) (t : List ℕ) (b : List (List ℕ)) (e : d ≡ group_of g) (h : d ≡ k) (m : k ≡ group_of n) where
-  same : group_of g ≡ group_of n
-  same = sym e ∙ h ∙ m
-
-  pub get_alike : Does (call (get_attribute n a) s) r t b → Does (call (get_attribute g a) s) r t b
+module _ (g a : ℕ) (s : List ℕ) where
+  pub same_get : call (get_attribute g a) s ≡ call (get_attribute (number_of (group_of g)) a) s
   unfolding describe
-  get_alike c =
-      rw (alike (get_attribute g a) (get_attribute n a) s (rw (refusal-list (get_attribute g a) s, refusal-list (get_attribute n a) s, same)) (rw same) refl refl refl) c
+  same_get =
+      let n = number_of (group_of g) in
+      alike (get_attribute g a) (get_attribute n a) s (rw (refusal-list (get_attribute g a) s, refusal-list (get_attribute n a) s, numbered (group_of g))) (rw (numbered (group_of g))) refl refl refl
 
-  pub set-alike : (x : ℕ) → Does (call (set_attribute n a x) s) r t b → Does (call (set_attribute g a x) s) r t b
+  pub same_set : (x : ℕ) → call (set_attribute g a x) s ≡ call (set_attribute (number_of (group_of g)) a x) s
   unfolding describe
-  set-alike x c =
-      rw (alike (set_attribute g a x) (set_attribute n a x) s (rw (refusal-list (set_attribute g a x) s, refusal-list (set_attribute n a x) s, same)) refl (rw same) refl refl) c
+  same_set x =
+      let n = number_of (group_of g) in
+      alike (set_attribute g a x) (set_attribute n a x) s (rw (refusal-list (set_attribute g a x) s, refusal-list (set_attribute n a x) s, numbered (group_of g))) refl (rw (numbered (group_of g))) refl refl
 
 -- ---- an unknown group
 
-module _ (d : AttributeGroup) (g a : ℕ) (s : List ℕ) (n : Errno) (e : d ≡ group_of g) (h : d ≡ Unknown) (f : Refuse n ≡ first_failing ((sound s, Efault) ∷ (false, Enxio) ∷ [])) where
-  pub get-unknown : Does (call (get_attribute g a) s) (number (Refused n)) s []
-  unfolding describe get_checks
-  get-unknown = refuses (get_attribute g a) s [] n (rw (refusal-list (get_attribute g a) s, ← e, h) f) refl
+module _ (a : ℕ) (s : List ℕ) where
+  abbrev unknown : Refusal
+  unknown = first_failing ((sound s, Efault) ∷ (false, Enxio) ∷ [])
 
-  pub set-unknown : (x : ℕ) → Does (call (set_attribute g a x) s) (number (Refused n)) s []
-  unfolding describe set_checks
-  set-unknown x = refuses (set_attribute g a x) s [] n (rw (refusal-list (set_attribute g a x) s, ← e, h) f) refl
+  pub unknown_get : call (get_attribute 0 a) s ≡ settle unknown (get_attribute 0 a) s
+  unfolding call describe get_checks group_of
+  unknown_get = rw (refusal-list (get_attribute 0 a) s)
 
-pub ruleset grouped = (get_alike, set-alike, get-unknown, set-unknown, register-number, count-number, initialise-number)
+  pub unknown_set : (x : ℕ) → call (set_attribute 0 a x) s ≡ settle unknown (set_attribute 0 a x) s
+  unfolding call describe set_checks group_of
+  unknown_set x = rw (refusal-list (set_attribute 0 a x) s)
+
+pub ruleset grouped = (same_get, same_set, unknown_get, unknown_set)

@@ -1,4 +1,2 @@
 -- The laws of the public calls.
-pub mod Numbers
-pub mod Shape
 pub mod Fronts

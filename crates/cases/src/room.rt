@@ -1,116 +1,158 @@
-// The room that a session works in: four states, each with its length behind it, and the buffer for records with what it held at the mark.
-ghost use Rattle.std.specs.Prelude.{◌+◌, ◌≤◌};
+// The room that a session works in: two devices, a buffer for records, and what the first device and the buffer held at the mark.
+ghost use Rattle.std.specs.Prelude.{◌≤◌};
 
-// The words of the longest state that is lent, and the place of a state's length behind them.
+use crate::command::Call;
+use model::Errno;
+use std::alloc::{AllocError, Global};
+use std::mem;
+
+// The words of the longest state that is lent.
 pub const MOST_WORDS: usize = 1761;
 
-// Where the states begin: the device, the state at the mark, the other device, and the device before the line.
-pub const DEVICE: usize = 0;
-
-pub const MARK: usize = 1762;
-
-pub const OTHER: usize = 3524;
-
-pub const BEFORE: usize = 5286;
-
-pub type Words = [u32; 7048];
-
-// The bytes of the buffer. What it held at the mark is behind them.
+// The bytes of the buffer.
 pub const BUFFER: usize = 9216;
 
-pub type Bytes = [u8; 18432];
-
-// Copies a state with its length.
-pub fn copy_state(words: &mut Words, from: usize, to: usize)
-    requires { (from ≤ 5286) × (to ≤ 5286) }
-{
-    for i in 0..1762 {
-        words[to + i] = words[from + i];
-    }
+// A device: its state and a word behind it, and how many of these words a call is lent.
+#[derive(Clone, Copy)]
+pub struct Device {
+    words: [u32; MOST_WORDS],
+    lent: usize,
+    ghost within: { lent ≤ 1761 },
 }
 
-// Exchanges the device with the other one.
-pub fn swap_devices(words: &mut Words) {
-    for i in 0..1762 {
-        let x = words[i];
-        words[i] = words[OTHER + i];
-        words[OTHER + i] = x;
-    }
-}
+// A word that differs, as its place and its value.
+pub type Change = (usize, u32);
 
-// Copies the buffer behind itself, or back.
-pub fn copy_buffer(bytes: &mut Bytes, from: usize, to: usize)
-    requires { (from ≤ 9216) × (to ≤ 9216) }
-{
-    for i in 0..BUFFER {
-        bytes[to + i] = bytes[from + i];
-    }
-}
-
-// Sets a word of the device.
-pub fn set_word(words: &mut Words, at: usize, x: u32) {
-    if at < MOST_WORDS {
-        words[at] = x;
-    }
-}
-
-// Sets the number of words that a call is lent.
-pub fn set_length(words: &mut Words, n: usize) {
-    words[MOST_WORDS] = (n % 0x1_0000) as u32;
-}
-
-// Sets every word of the device.
-pub fn set_words(words: &mut Words, x: u32) {
-    let n = lent(words);
-    for i in 0..n {
-        words[i] = x;
-    }
-}
-
-// Sets every byte of the buffer.
-pub fn set_bytes(bytes: &mut Bytes, x: u8) {
-    for i in 0..BUFFER {
-        bytes[i] = x;
-    }
-}
-
-// A device just made, another one, and a buffer of a5.
-pub fn begin(words: &mut Words, bytes: &mut Bytes) {
-    words[MOST_WORDS] = 1760;
-    words[OTHER + MOST_WORDS] = 1760;
-    copy_state(words, DEVICE, MARK);
-    set_bytes(bytes, 0xa5);
-    copy_buffer(bytes, 0, BUFFER);
-}
-
-pub fn wide(x: u32) -> u64 {
-    x as u64
-}
-
-// The number of words that a call is lent.
-pub fn lent(words: &Words) -> usize
-    ensures { result ≤ 1761 }
-{
-    let n = wide(words[MOST_WORDS]) as usize;
-    if n > MOST_WORDS { MOST_WORDS } else { n }
-}
-
-// The first byte of the buffer that differs from the mark, or the buffer's length.
-pub fn first_touched(bytes: &Bytes) -> usize {
-    for i in 0..BUFFER {
-        if bytes[i] != bytes[BUFFER + i] {
-            return i;
+impl Device {
+    // A device of zeros.
+    fn new() -> Device {
+        Device {
+            words: [0; MOST_WORDS],
+            lent: 1760,
         }
     }
-    BUFFER
+
+    // The words that a call is lent.
+    pub fn state(&self) -> &[u32] {
+        &self.words[..self.lent]
+    }
+
+    // Makes a call on them.
+    pub fn make(&mut self, call: Call) -> Result<u32, Errno> {
+        let words = &mut self.words[..];
+        call.make(&mut words[..self.lent])
+    }
+
+    // Restores a record into them.
+    pub fn restore(&mut self, record: &[u8]) -> Result<u32, Errno> {
+        let words = &mut self.words[..];
+        calls::restore(&mut words[..self.lent], record)
+    }
+
+    // Sets each of them.
+    pub fn fill(&mut self, x: u32) {
+        let words = &mut self.words[..];
+        words[..self.lent].fill(x);
+    }
+
+    // Lends the first n words from now on, if there are as many.
+    pub fn lend(&mut self, n: usize) -> Option<()> {
+        if n > MOST_WORDS {
+            return None;
+        }
+        self.lent = n;
+        Some(())
+    }
+
+    pub fn word(&self, at: usize) -> Option<u32> {
+        self.words.get(at).copied()
+    }
+
+    // Sets a word, if it is there.
+    pub fn set_word(&mut self, at: usize, x: u32) -> Option<()> {
+        *self.words.get_mut(at)? = x;
+        Some(())
+    }
+
+    // The words that differ from those of another device.
+    pub fn changes(&self, alloc: Global, other: &Device) -> Result<Vec<Change>, AllocError> {
+        self.words
+            .iter()
+            .zip(&other.words)
+            .enumerate()
+            .filter(|(_, (word, before))| word != before)
+            .map(|(at, (word, _))| (at, *word))
+            .collect(alloc)
+    }
 }
 
-// One more than the last byte that differs from the mark, or 0.
-pub fn last_touched(bytes: &Bytes) -> usize {
-    for i in (0..BUFFER).rev() {
-        if bytes[i] != bytes[BUFFER + i] {
-            return i + 1;
+#[derive(Drop)]
+pub struct Room {
+    pub alloc: Global,
+    pub device: Device,
+    pub other: Device,
+    pub buffer: [u8; BUFFER],
+    device_at_mark: Device,
+    buffer_at_mark: [u8; BUFFER],
+}
+
+impl Room {
+    // A device just made, another one, and a buffer of a5.
+    pub fn new(alloc: Global) -> Room {
+        Room {
+            alloc,
+            device: Device::new(),
+            other: Device::new(),
+            buffer: [0xa5; BUFFER],
+            device_at_mark: Device::new(),
+            buffer_at_mark: [0xa5; BUFFER],
         }
     }
-    0
+
+    // Remembers the device and the buffer.
+    pub fn mark(&mut self) {
+        self.device_at_mark = self.device;
+        self.buffer_at_mark = self.buffer;
+    }
+
+    // Puts them back as they were at the mark.
+    pub fn back(&mut self) {
+        self.device = self.device_at_mark;
+        self.buffer = self.buffer_at_mark;
+    }
+
+    // Goes on with the other device.
+    pub fn swap(&mut self) {
+        mem::swap(&mut self.device, &mut self.other);
+    }
+
+    // The words of the device that differ from the mark.
+    pub fn changed(&self) -> Result<Vec<Change>, AllocError> {
+        self.device.changes(self.alloc, &self.device_at_mark)
+    }
+
+    // Those that differ from the other device's.
+    pub fn differing(&self) -> Result<Vec<Change>, AllocError> {
+        self.device.changes(self.alloc, &self.other)
+    }
+
+    // So many bytes of the buffer from a place on.
+    pub fn shown(&self, at: usize, n: usize) -> Option<&[u8]> {
+        self.buffer.get(at..)?.get(..n)
+    }
+
+    // The first and the last byte of the buffer that differ from the mark.
+    pub fn touched(&self) -> Option<(usize, usize)> {
+        let first = self
+            .buffer
+            .iter()
+            .zip(&self.buffer_at_mark)
+            .position(|(a, b)| a != b)?;
+        let last = self
+            .buffer
+            .iter()
+            .zip(&self.buffer_at_mark)
+            .rposition(|(a, b)| a != b)?;
+        Some((first, last))
+    }
 }

@@ -13,14 +13,22 @@ fn run_file<R: Files + Print + Eprint>(rt: &R, name: &str) -> io::Result<()> {
     }
 }
 
+// The sessions of docs/class, in order.
+const SESSIONS: [&str; 9] = [
+    "first.session",
+    "set-up.session",
+    "pending-first.session",
+    "pending-spare.session",
+    "enables-first.session",
+    "enables-spare.session",
+    "lines-first.session",
+    "lines-spare.session",
+    "lines-in-order.session",
+];
+
 fn main(rt: HostRuntime) -> io::Result<()> {
-    run_file(&rt, "first.session")?;
-    run_file(&rt, "set-up.session")?;
-    run_file(&rt, "pending-first.session")?;
-    run_file(&rt, "pending-spare.session")?;
-    run_file(&rt, "enables-first.session")?;
-    run_file(&rt, "enables-spare.session")?;
-    run_file(&rt, "lines-first.session")?;
-    run_file(&rt, "lines-spare.session")?;
-    run_file(&rt, "lines-in-order.session")
+    for name in SESSIONS {
+        run_file(&rt, name)?;
+    }
+    Ok(())
 }

@@ -2,6 +2,5 @@
 pub mod Spaces
 pub mod Hex
 pub mod Words
-pub mod Texts
-pub mod Ran
+pub mod Blocks
 pub mod Whole

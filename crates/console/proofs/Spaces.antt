@@ -1,42 +1,43 @@
--- Going through the bytes of a field, and of two lists beside each other.
-use Prim.Native.Nat.{ℕ, suc, ◌+◌, ◌-◌, ◌<◌, ◌≤◌}
-use mathlib.Core.Path.{◌≡◌, refl, sym, ap, ◌∙◌}
-use mathlib.Core.Bool.{Bool, true, false, and-false}
+-- The fields of a line, one after another.
+use Prim.Native.Nat.{ℕ, ◌+◌, ◌-◌, ◌<◌, ◌≤◌}
+use mathlib.Core.Path.{◌≡◌, refl}
+use mathlib.Core.Bool.{Bool, true, false}
 use mathlib.Core.List.{List, [], ◌∷◌}
 use native.Mathlib.Omega.{arith}
 use native.Mathlib.Numerals.{add-one}
-use borrow.Author.Tests.{eq-eqb, ne_eqb, le-leb, lt-leb}
+use Rattle.std.proofs.lemmas.Bool.Decides.{nat_tests}
+use native.Mathlib.Nat.{le_refl}
+use borrow.Author.Tests.{le-leb, lt-leb}
 use lib.Dec.{eqb}
-use lib.ListN.{length, get_or, take, drop, drop_of_length-le}
-use lib.Seq.{drop-cons, drop-drop, length-take-le}
-use Rattle.console.specs.declared.Number.{Number}
-use Rattle.console.specs.declared.Numbers.{Numbers}
-use Rattle.console.specs.declared.Numbers.TheVariants.{Zero}
-use Rattle.console.specs.declared.Parsed.{Parsed}
-use Rattle.console.specs.declared.Parsed.TheVariants.{Bad}
-use Rattle.console.specs.Text.{space, joined, fields, number, further, numbers, rows, same, line_in, line_of, parsed}
+use lib.ListN.{length, get_or, take, drop, length-drop, drop_of_length-le}
+use lib.Seq.{drop-cons, take_all}
+use Rattle.std.proofs.lemmas.Grind.{common_steps}
+use Rattle.std.specs.List.{position, position_or_len, onto_first, slice_split}
+use Rattle.std.specs.Prelude.{◌==◌, Option, Some, None}
+use Rattle.console.specs.Text.{space, joined, fields, number, further, numbers, rows, line_in, line_of, parsed}
 use Rattle.console.specs.Steps.{first, spaced}
 
 -- ---- the bytes before the first space
 
-module _ (l : List ℕ) (i v : ℕ) (inv : i + first (drop i l) ≡ v) where
-  pub stops-here : i < length l → get_or l i 0 ≡ 32 → i ≡ v
-  unfolding first
-  stops-here h q =
-      let z : first (drop i l) ≡ 0 = rw (drop-cons l i 0 h, eq-eqb (get_or l i 0) 32 q) in
-      omega arith
+first-place : (l : List ℕ) → first l ≡ position_or_len (λ b. b == space) l
+unfolding first
+first-place [] = refl
+first-place (b ∷ bs) = grind (arith, nat_tests, first-place bs)
 
-  pub stops-last : length l ≤ i → i ≡ v
-  unfolding first
-  stops-last h =
-      let z : first (drop i l) ≡ 0 = rw (drop_of_length-le l h) in
-      omega arith
+first-bound : (l : List ℕ) → first l ≤ length l
+unfolding first
+first-bound [] = grind arith
+first-bound (b ∷ bs) = grind (arith, nat_tests, first-bound bs)
 
-  pub goes_on : i < length l → (get_or l i 0 ≡ 32 → ⊥) → i + 1 + first (drop (i + 1) l) ≡ v
-  unfolding first
-  goes_on h q =
-      let z : first (drop i l) ≡ suc (first (drop (suc i) l)) = rw (drop-cons l i 0 h, ne_eqb (get_or l i 0) 32 q) in
-      rw (add-one i) (omega arith)
+module _ (l : List ℕ) (from : ℕ) (within : from ≤ length l) (r : Option ℕ) (e : r ≡ position (λ b. b == space) (take (length l - from) (drop from l))) where
+  found : r ≡ position (λ b. b == space) (drop from l)
+  found = rw (take_all (length l - from) (drop from l) (rw length-drop (le_refl (length l - from)))) at e
+
+  pub ends_inside : (n : ℕ) → r ≡ Some n → from + n ≡ from + first (drop from l)
+  ends_inside n h = grind (arith, common_steps, nat_tests, first-place (drop from l), found)
+
+  pub ends_last : r ≡ None → length l ≡ from + first (drop from l)
+  ends_last h = grind (arith, common_steps, nat_tests, first-place (drop from l), first-bound (drop from l), found)
 
 -- ---- a line is its first field, and those after each space
 
@@ -51,64 +52,61 @@ unfolding fields first spaced
 split [] = refl
 split (b ∷ bs) = split-on (eqb b space) b bs refl (split bs)
 
--- one field more, from i + 1 to e
-pub one_field : (l : List ℕ) (i e : ℕ) (v ns r : Numbers) (x : Number) → numbers ns (spaced (drop i l)) ≡ v → i < length l
-    → e ≡ i + 1 + first (drop (i + 1) l) → x ≡ number (take (e - (i + 1)) (drop (i + 1) l)) → r ≡ further ns x → numbers r (spaced (drop e l)) ≡ v
-unfolding numbers spaced
-one_field l i e v ns r x inv h p q f =
-    let n : e - (i + 1) ≡ first (drop (i + 1) l) = omega arith in
-    let g : x ≡ number (take (first (drop (i + 1) l)) (drop (i + 1) l)) = rw n at q in
-    let z : numbers ns (spaced (drop i l)) ≡ numbers r (spaced (drop e l)) =
-    rw (drop-cons l i 0 h, ← add-one i, split (drop (i + 1) l), drop-drop (first (drop (i + 1) l)) (i + 1) l, p, f, g) in
-    sym z ∙ inv
+-- the fields are what `split` gives
+joined-onto : (b : ℕ) (fs : List (List ℕ)) → joined b fs ≡ onto_first b fs
+unfolding joined
+joined-onto b [] = refl
+joined-onto b (f ∷ fs) = refl
 
-pub no_field : (l : List ℕ) (i : ℕ) (v ns : Numbers) → numbers ns (spaced (drop i l)) ≡ v → length l ≤ i → ns ≡ v
-unfolding numbers spaced
-no_field l i v ns inv h = rw (drop_of_length-le l h) at inv
+fields-split : (l : List ℕ) → fields l ≡ slice_split (λ b. b == space) l
+unfolding fields
+fields-split [] = refl
+fields-split (b ∷ bs) = rw (← fields-split bs, joined-onto b (fields bs))
+
+-- the field at place n is the next
+pub next_field : (l : List ℕ) (n : ℕ) (f : List ℕ) (ns : Option (List ℕ)) → (n < length (slice_split (λ b. b == space) l)) × (f ≡ get_or (slice_split (λ b. b == space) l) n f)
+    → numbers ns (drop n (fields l)) ≡ numbers (further ns (number f)) (drop (n + 1) (fields l))
+unfolding numbers
+next_field l n f ns h =
+    let k : n < length (fields l) = rw (fields-split l) h.0 in
+    let e : f ≡ get_or (fields l) n f = rw (fields-split l) h.1 in
+    rw (add-one n, drop-cons (fields l) n f k, ← e)
+
+pub no_field : (l : List ℕ) (n : ℕ) (ns : Option (List ℕ)) → n ≡ length (slice_split (λ b. b == space) l) → numbers ns (drop n (fields l)) ≡ ns
+unfolding numbers
+no_field l n ns h =
+    let k : length (fields l) ≤ n = rw (fields-split l) (omega arith) in
+    rw (drop_of_length-le (fields l) k)
+
+-- once a field is no number, or there are five, the line has no numbers
+none_more : (x : Option ℕ) → further None x ≡ None
+unfolding further
+none_more None = refl
+none_more (Some n) = refl
+
+pub no_numbers : (fs : List (List ℕ)) → numbers None fs ≡ None
+unfolding numbers
+no_numbers [] = refl
+no_numbers (f ∷ fs) = rw (none_more (number f), no_numbers fs)
+
+pub ruleset no_more_fields = (no_numbers, nat_tests, common_steps)
 
 -- ---- a line
 
-pub cut-length : (l : List ℕ) (n : ℕ) → n ≤ length l → n ≡ length (take n l)
-cut-length l n h = sym (length-take-le n l h)
-
-pub too_long : (l : List ℕ) → 80 < length l → Bad ≡ parsed l
+pub too_long : (l : List ℕ) → 80 < length l → parsed l ≡ None
 unfolding parsed
 too_long l h = rw (lt-leb (length l) 80 h)
 
-pub word-and-numbers : (l : List ℕ) (e : ℕ) (ns : Numbers) (r : Parsed) → length l ≤ 80 → e ≡ 0 + first l → ns ≡ numbers Zero (spaced (drop e l))
-    → r ≡ line_in (rows ns) (take e l) → r ≡ parsed l
-unfolding parsed line_of
-word-and-numbers l e ns r h p q f =
-    let n : e ≡ first l = omega arith in
-    rw (le-leb (length l) 80 h, split l, ← n, ← q) f
+pub word_alone : (l : List ℕ) → length l ≤ 80 → first l ≡ length l → parsed l ≡ line_in (rows (Some [])) l
+unfolding parsed line_of numbers spaced
+word_alone l h e = rw (le-leb (length l) 80 h, split l, e, drop_of_length-le l (le_refl (length l)), take_all (length l) l (le_refl (length l)))
 
--- ---- two lists are the same
+rest_whole : (l : List ℕ) (n : ℕ) → take (length l - n) (drop n l) ≡ drop n l
+rest_whole l n = take_all (length l - n) (drop n l) (rw length-drop (le_refl (length l - n)))
 
-pub not_as_long : (a b : List ℕ) → (length a ≡ length b → ⊥) → false ≡ same a b
-unfolding same
-not_as_long [] [] h = absurd (h refl)
-not_as_long [] (y ∷ b) h = refl
-not_as_long (x ∷ a) [] h = refl
-not_as_long (x ∷ a) (y ∷ b) h = rw (← not_as_long a b (λ e. h (ap suc e)), and-false)
+pub word_first : (l : List ℕ) → length l ≤ 80 → first l < length l
+    → parsed l ≡ line_in (rows (numbers (Some []) (fields (take (length l - (first l + 1)) (drop (first l + 1) l))))) (take (first l) l)
+unfolding parsed line_of spaced
+word_first l h k = rw (rest_whole l (first l + 1), le-leb (length l) 80 h, split l, drop-cons l (first l) 0 k, add-one (first l))
 
-module _ (a b : List ℕ) (i : ℕ) (inv : same (drop i a) (drop i b) ≡ same a b) (long : length a ≡ length b) where
-  pub differs : i < length a → (get_or a i 0 ≡ get_or b i 0 → ⊥) → false ≡ same a b
-  unfolding same
-  differs h q =
-      let k : i < length b = omega arith in
-      let z : same (drop i a) (drop i b) ≡ false = rw (drop-cons a i 0 h, drop-cons b i 0 k, ne_eqb (get_or a i 0) (get_or b i 0) q) in
-      cc
-
-  pub agrees : i < length a → get_or a i 0 ≡ get_or b i 0 → same (drop (i + 1) a) (drop (i + 1) b) ≡ same a b
-  unfolding same
-  agrees h q =
-      let k : i < length b = omega arith in
-      let z : same (drop i a) (drop i b) ≡ same (drop (suc i) a) (drop (suc i) b) = rw (drop-cons a i 0 h, drop-cons b i 0 k, eq-eqb (get_or a i 0) (get_or b i 0) q) in
-      rw (add-one i) (cc)
-
-  pub the_same : length a ≤ i → true ≡ same a b
-  unfolding same
-  the_same h =
-      let k : length b ≤ i = omega arith in
-      let z : same (drop i a) (drop i b) ≡ true = rw (drop_of_length-le a h, drop_of_length-le b k) in
-      cc
+pub ruleset a_line = (too_long, word_alone, word_first)

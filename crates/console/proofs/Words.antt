@@ -1,51 +1,37 @@
--- The words, row by row; a number more; the call of a command.
+-- A word of two, three or four bytes is compared byte after byte.
 use Prim.Native.Nat.{ℕ}
 use mathlib.Core.Path.{◌≡◌, refl}
-use mathlib.Core.Bool.{Bool, true, false, cond}
+use mathlib.Core.Bool.{Bool, true, false, ◌&&◌}
 use mathlib.Core.List.{List, [], ◌∷◌}
-use borrow.Author.Tests.{le-leb, lt-leb}
-use lib.IntN.{ℤ}
-use mir.Syntax.{w64}
-use mir.Val.{SFits, to_z, of_z}
-use mir.Facts.{to_z-of_z}
-use Rattle.model.specs.Calls.{Does, call}
-use Rattle.console.specs.declared.Number.{Number}
-use Rattle.console.specs.declared.Numbers.{Numbers}
-use Rattle.console.specs.declared.Command.{Command}
-use Rattle.console.specs.declared.Parsed.{Parsed}
-use Rattle.console.specs.declared.Parsed.TheVariants.{Good, Bad}
-use Rattle.console.specs.Commands.{call_of, is_read}
-use Rattle.console.specs.Text.{further, Row, rows, same, line_in}
+use Rattle.std.proofs.lemmas.Bool.Decides.{nat_tests}
+use native.Mathlib.Omega.{arith}
+use lib.Dec.{eqb}
+use lib.ListN.{length, get_or}
+use Rattle.console.specs.Text.{same}
 
-pub further-as : (ns ms r : Numbers) (x y : Number) → ns ≡ ms → x ≡ y → r ≡ further ms y → r ≡ further ns x
-further-as ns ms r x y p q e = rw (p, q) e
+and-none : (p : Bool) → (p && false) ≡ false
+and-none true = refl
+and-none false = refl
 
-pub call-as : (c d : Command) (s t : List ℕ) (r : ℤ) → c ≡ d → SFits w64 r → Does (call (call_of d) s) r t [] → Does (call (call_of c) s) (to_z w64 (of_z w64 r)) t []
-call-as c d s t r e f h = rw (e, to_z-of_z f) h
+and-true : (p : Bool) → (p && true) ≡ p
+and-true true = refl
+and-true false = refl
 
-pub read_as : (c d : Command) (r : Bool) → c ≡ d → r ≡ is_read d → r ≡ is_read c
-read_as c d r e h = rw e h
+pub same_2 : (w : List ℕ) (x y : ℕ) → same w (x ∷ y ∷ []) ≡ (eqb (length w) 2 && (eqb (get_or w 0 0) x && eqb (get_or w 1 0) y))
+unfolding same
+same_2 [] x y = refl
+same_2 (a ∷ []) x y = simp and-none
+same_2 (a ∷ b ∷ []) x y = simp and-true
+same_2 (a ∷ b ∷ c ∷ w) x y = grind (arith, nat_tests)
 
-module _ (w : List ℕ) (r : Row) (rs : List Row) (t : Bool) (p : Parsed) (e : t ≡ same w r.word) where
-  pub row_has : t ≡ true → p ≡ cond r.fits (Good r.command) Bad → p ≡ line_in (r ∷ rs) w
-  unfolding line_in
-  row_has h q = rw (← e, h) q
+pub same_3 : (w : List ℕ) (x y z : ℕ) → same w (x ∷ y ∷ z ∷ []) ≡ (eqb (length w) 3 && (eqb (get_or w 0 0) x && (eqb (get_or w 1 0) y && eqb (get_or w 2 0) z)))
+unfolding same
+same_3 [] x y z = refl
+same_3 (a ∷ w) x y z = grind (arith, nat_tests, same_2 w y z)
 
-  pub row-lacks : t ≡ false → p ≡ line_in rs w → p ≡ line_in (r ∷ rs) w
-  unfolding line_in
-  row-lacks h q = rw (← e, h) q
+pub same_4 : (w : List ℕ) (x y z u : ℕ) → same w (x ∷ y ∷ z ∷ u ∷ []) ≡ (eqb (length w) 4 && (eqb (get_or w 0 0) x && (eqb (get_or w 1 0) y && (eqb (get_or w 2 0) z && eqb (get_or w 3 0) u))))
+unfolding same
+same_4 [] x y z u = refl
+same_4 (a ∷ w) x y z u = grind (arith, nat_tests, same_3 w y z u)
 
-pub no_row : (w : List ℕ) → Bad ≡ line_in [] w
-unfolding line_in
-no_row w = refl
-
-pub rows_as : (ns ms : Numbers) (w : List ℕ) (p : Parsed) → ns ≡ ms → p ≡ line_in (rows ms) w → p ≡ line_in (rows ns) w
-rows_as ns ms w p e h = rw e h
-
-pub fits_not : (t : Bool) (p : Parsed) → t ≡ false → Bad ≡ cond t p Bad
-fits_not t p h = rw h
-
-pub fits-so : (t : Bool) (p : Parsed) → t ≡ true → p ≡ cond t p Bad
-fits-so t p h = rw h
-
-pub ruleset words = (row_has, row-lacks, no_row, fits_not, fits-so, le-leb, lt-leb)
+pub ruleset words = (same_2, same_3, same_4, nat_tests)

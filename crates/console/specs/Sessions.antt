@@ -1,21 +1,20 @@
 -- A line run on a device's words; the lines of an input, and what they print.
-use Rattle.std.specs.Prelude.{ℕ, cond, List, [], ◌∷◌, ◌++◌, ◌≡◌, eqb, ltb, length, take}
+use Rattle.std.specs.Prelude.{ℕ, cond, List, [], ◌∷◌, ◌++◌, ◌≡◌, eqb, ltb, length, Option, Some, None}
 use Rattle.model.specs.Calls.{call, made}
 use Rattle.console.specs.Commands.{call_of, is_read}
 use Rattle.console.specs.Text.{joined, parsed}
 use Rattle.console.specs.Answers.{newline, answer_line, bad_line}
-use Rattle.console.specs.declared.Parsed.{Parsed}
-use Rattle.console.specs.declared.Parsed.TheVariants.{Good, Bad}
+use Rattle.console.specs.declared.Command.{Command}
 
 -- what a line prints
-unfoldable pub printed : Parsed → List ℕ → List ℕ
-printed (Good c) s = answer_line (is_read c) (call (call_of c) s).answer
-printed Bad s = bad_line
+unfoldable pub printed : Option Command → List ℕ → List ℕ
+printed (Some c) s = answer_line (is_read c) (call (call_of c) s).answer
+printed None s = bad_line
 
 -- the words that it leaves
-unfoldable pub left : Parsed → List ℕ → List ℕ
-left (Good c) s = (call (call_of c) s).state
-left Bad s = s
+unfoldable pub left : Option Command → List ℕ → List ℕ
+left (Some c) s = (call (call_of c) s).state
+left None s = s
 
 -- ---- a whole input
 
@@ -61,9 +60,9 @@ block_read t (b ∷ bs) = block_read (byte_read t b) bs
 unfoldable pub input_ended : Session → Session
 input_ended t = cond (eqb (length t.line) 0) t (line_ended t)
 
--- the words, the first n bytes of a buffer, and the first k bytes of another
-abbrev pub stands : List ℕ → List ℕ → ℕ → List ℕ → ℕ → Session
-stands s line n out k = record { words = s; line = take n line; text = take k out }
+-- the device's words, the bytes that are kept of the line begun, and what is printed, as one
+abbrev pub session_of : List ℕ → List ℕ → List ℕ → Session
+session_of s l x = record { words = s; line = l; text = x }
 
 -- the words that a session leaves, and what it prints
 pub record Ends (t : Session) (s : List ℕ) (out : List ℕ) : Type 0 where

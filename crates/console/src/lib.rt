@@ -4,33 +4,20 @@
 pub mod parse;
 pub mod print;
 
-ghost use Rattle.std.specs.Prelude.{◌≡◌, [], ◌++◌, ◌+◌, ◌*◌, ◌≤◌, length, take};
+ghost use Rattle.std.specs.Prelude.{◌≡◌, [], ◌++◌, ◌+◌, ◌*◌, ◌≤◌, length};
+ghost use Rattle.arrayvec.specs.ArrayVec.{array_vec_len};
+ghost use Rattle.model.specs.Refusals.{number};
 ghost use Rattle.model.specs.Calls.{Does, call};
 ghost use Rattle.console.specs.Commands.{call_of, is_read};
 ghost use Rattle.console.specs.Text.{parsed};
-ghost use Rattle.console.specs.Sessions.{printed, left, kept, stands, byte_read, block_read, input_ended, Ends};
+ghost use Rattle.console.specs.Sessions.{printed, left, session_of, byte_read, block_read, input_ended, Ends};
 
+use arrayvec::ArrayVec;
+use calls::number_of;
+use model::Errno;
 use parse::parse_line;
 use print::{append, put_answer};
 use state::{Mpidr, VcpuIndex};
-
-// A number of a line: 1 to 16 hex digits, or none.
-#[derive(Clone, Copy)]
-pub enum Number {
-    Hex(u64),
-    None,
-}
-
-// The numbers of a line: up to four, or not so.
-#[derive(Clone, Copy)]
-pub enum Numbers {
-    Zero,
-    One(u64),
-    Two(u64, u64),
-    Three(u64, u64, u64),
-    Four(u64, u64, u64, u64),
-    Bad,
-}
 
 // A word with its numbers.
 #[derive(Clone, Copy)]
@@ -49,23 +36,13 @@ pub enum Command {
     Sig(usize),
 }
 
-// What a line is.
-#[derive(Clone, Copy)]
-pub enum Parsed {
-    Good(Command),
-    Bad,
-}
-
-// How many bytes of the line begun are kept, and how many bytes are printed.
-#[derive(Clone, Copy)]
-pub struct Progress {
-    pub kept: usize,
-    pub printed: usize,
-}
+// The bytes that are kept of a line begun: at most one more than a line may have.
+pub type Line = ArrayVec<u8, 81>;
 
 // Makes the call of a command.
-fn run(state: &mut [u32], command: Command) -> i64
-    ensures { Does (call (call_of command) state.old) result state.new [] }
+#[tactic(auto, unfolding(crate::specs::Commands::call_of))]
+fn run(state: &mut [u32], command: Command) -> Result<u32, Errno>
+    ensures { Does (call (call_of command) state.old) (number result) state.new [] }
 {
     match command {
         Command::Irqs(n) => calls::set_attribute(state, 3, 0, n),
@@ -97,109 +74,71 @@ fn run(state: &mut [u32], command: Command) -> i64
 }
 
 // Whether a command prints a number.
+#[tactic(auto, unfolding(crate::specs::Commands::is_read))]
 fn reads(command: Command) -> bool
     ensures { result ≡ is_read command }
 {
-    match command {
-        Command::Irqs(_) => false,
-        Command::Vcpu(_) => false,
-        Command::Init => false,
-        Command::Run(_, _) => false,
-        Command::Dr(_, _) => true,
-        Command::Dw(_, _, _) => false,
-        Command::Rr(_, _, _) => true,
-        Command::Rw(_, _, _, _) => false,
-        Command::Sr(_, _) => true,
-        Command::Sw(_, _, _) => false,
-        Command::Line(_, _, _) => false,
-        Command::Sig(_) => true,
-    }
+    matches!(
+        command,
+        Command::Dr(_, _) | Command::Rr(_, _, _) | Command::Sr(_, _) | Command::Sig(_)
+    )
 }
 
-// Runs a line and prints its answer from `at` on; gives where the next is to begin.
-pub fn run_line(state: &mut [u32], line: &[u8], out: &mut [u8], at: usize) -> usize
-    requires { at + 24 ≤ length out.old }
+// Runs a line and prints its answer, for which there is room.
+#[tactic(auto, unfolding(crate::specs::Sessions::printed, crate::specs::Sessions::left, crate::specs::Answers::bad_line))]
+pub fn run_line<const N: usize>(state: &mut [u32], line: &[u8], out: &mut ArrayVec<u8, N>)
+    requires { array_vec_len out.old + 24 ≤ N }
     ensures state_after { state.new ≡ left (parsed line.now) state.old }
-    ensures out_after { take result out.new ≡ take at out.old ++ printed (parsed line.now) state.old }
-    ensures upper_bound { result ≤ at + 24 }
+    ensures out_after { out.new.items ≡ out.old.items ++ printed (parsed line.now) state.old }
+    ensures upper_bound { array_vec_len out.new ≤ array_vec_len out.old + 24 }
 {
-    let Parsed::Good(command) = parse_line(line) else {
-        return append(out, at, b"?\n");
+    let Some(command) = parse_line(line) else {
+        return append(out, b"?\n");
     };
     let answer = run(state, command);
-    put_answer(out, at, reads(command), answer)
+    put_answer(out, reads(command), number_of(answer));
 }
 
 // ---- the input, in blocks
 
-// The bytes that are kept of a line: one more than a line may have.
-const MOST_KEPT: usize = 81;
-
-// Keeps a byte of the line begun; gives how many are kept.
-fn keep(line: &mut [u8], n: usize, b: u8) -> usize
-    requires { (length line.old ≡ 81) × (n ≤ 81) }
-    ensures { (take result line.new ≡ kept (take n line.old) b) × (result ≤ 81) }
-{
-    if n >= MOST_KEPT {
-        return n;
-    }
-    line[n] = b;
-    n + 1
-}
-
 // Reads a byte of the input: it ends the line begun, or is kept.
-fn read_byte(
-    state: &mut [u32],
-    line: &mut [u8],
-    n: usize,
-    b: u8,
-    out: &mut [u8],
-    at: usize,
-) -> Progress
-    requires { (length line.old ≡ 81) × (n ≤ 81) × (at + 24 ≤ length out.old) }
-    ensures printed_after { stands state.new line.new result.kept out.new result.printed ≡ byte_read (stands state.old line.old n out.old at) b }
-    ensures kept_bound { (result.kept ≤ 81) × (result.printed ≤ at + 24) }
+#[tactic(auto, using(std::proofs::lemmas::Bool::Decides::nat_tests), unfolding(crate::specs::Sessions::byte_read, crate::specs::Sessions::line_ended, crate::specs::Sessions::byte_kept, crate::specs::Sessions::kept))]
+fn read_byte<const N: usize>(state: &mut [u32], line: &mut Line, b: u8, out: &mut ArrayVec<u8, N>)
+    requires { array_vec_len out.old + 24 ≤ N }
+    ensures printed_after { session_of state.new line.new.items out.new.items ≡ byte_read (session_of state.old line.old.items out.old.items) b }
+    ensures upper_bound { array_vec_len out.new ≤ array_vec_len out.old + 24 }
 {
     if b == b'\n' {
-        let printed = run_line(state, &line[..n], out, at);
-        return Progress { kept: 0, printed };
+        run_line(state, line.as_slice(), out);
+        line.clear();
+        return;
     }
-    let kept = keep(line, n, b);
-    Progress { kept, printed: at }
+    let _ = line.try_push(b);
 }
 
-// Reads a block of the input, of whose first line `n` bytes are kept already, and prints the answers of the lines that end in it.
-pub fn run_block(
+// Reads a block of the input, and prints the answers of the lines that end in it; the line begun is kept.
+#[tactic(auto, using(crate::proofs::Blocks::each_byte))]
+pub fn run_block<const N: usize>(
     state: &mut [u32],
-    line: &mut [u8],
-    n: usize,
+    line: &mut Line,
     block: &[u8],
-    out: &mut [u8],
-) -> Progress
-    requires { (length line.old ≡ 81) × (n ≤ 81) × (24 * length block.now ≤ length out.old) }
-    ensures printed_after { stands state.new line.new result.kept out.new result.printed ≡ block_read (stands state.old line.old n out.old 0) block.now }
-    ensures kept_bound { (result.kept ≤ 81) × (result.printed ≤ length out.new) }
+    out: &mut ArrayVec<u8, N>,
+)
+    requires { array_vec_len out.old + 24 * length block.now ≤ N }
+    ensures { session_of state.new line.new.items out.new.items ≡ block_read (session_of state.old line.old.items out.old.items) block.now }
 {
-    let mut kept = n;
-    let mut at: usize = 0;
-    let mut i: usize = 0;
-    while i < block.len() {
-        let progress = read_byte(state, line, kept, block[i], out, at);
-        kept = progress.kept;
-        at = progress.printed;
-        i += 1;
+    for b in block {
+        read_byte(state, line, *b, out);
     }
-    Progress { kept, printed: at }
 }
 
 // At the end of the input: prints the answer of a last line that lacks its end.
-pub fn run_last(state: &mut [u32], line: &[u8], n: usize, out: &mut [u8]) -> usize
-    requires { (n ≤ length line.now) × (24 ≤ length out.old) }
-    ensures ends { Ends (input_ended (stands state.old line.now n out.old 0)) state.new (take result out.new) }
-    ensures upper_bound { result ≤ length out.new }
+#[tactic(auto, using(std::proofs::lemmas::Bool::Decides::nat_tests), unfolding(crate::specs::Sessions::input_ended, crate::specs::Sessions::line_ended))]
+pub fn run_last<const N: usize>(state: &mut [u32], line: &[u8], out: &mut ArrayVec<u8, N>)
+    requires { array_vec_len out.old + 24 ≤ N }
+    ensures { Ends (input_ended (session_of state.old line.now out.old.items)) state.new out.new.items }
 {
-    if n == 0 {
-        return 0;
+    if !line.is_empty() {
+        run_line(state, line, out);
     }
-    run_line(state, &line[..n], out, 0)
 }

@@ -1,11 +1,10 @@
 // A line is parsed: a word and hex numbers, one space between.
-ghost use Rattle.std.specs.Prelude.{◌≡◌, cond, ◌+◌, ◌≤◌, length, drop};
-ghost use Rattle.console.specs.Text.{same, digit_of, number, further, numbers, rows, line_in, parsed};
-ghost use Rattle.console.specs.Steps.{first, spaced};
-ghost use Rattle.console.specs.declared.Numbers.TheVariants.{Zero, One, Two, Three, Four};
-ghost use Rattle.console.specs.declared.Parsed.TheVariants.{Good, Bad};
+ghost use Rattle.std.specs.Prelude.{◌≡◌, ◌==◌, [], ◌+◌, ◌<◌, ◌≤◌, length, drop, position, option_map, unwrap_or, IfSome};
+ghost use Rattle.console.specs.Text.{space, digit_of, fields, number, numbers, rows, line_in, parsed};
+ghost use Rattle.console.specs.Steps.{first};
 
-use crate::{Command, Number, Numbers, Parsed};
+use crate::Command;
+use arrayvec::ArrayVec;
 
 // The characters of a line at most.
 const MOST_CHARACTERS: usize = 80;
@@ -13,234 +12,112 @@ const MOST_CHARACTERS: usize = 80;
 // A number that is no level and no value of `sw` at most.
 const MOST: u64 = 0xffff_ffff;
 
+// The place of the first space.
+fn space_in(text: &[u8]) -> Option<usize>
+    ensures { result ≡ position (λ b. b == space) text.now }
+{
+    text.iter().position(|b| *b == b' ')
+}
+
 // Where the field that begins at `from` ends: at the next space, or at the end of the line.
 pub fn field_end(line: &[u8], from: usize) -> usize
     requires { from ≤ length line.now }
-    ensures { (result ≡ from + first (drop from line.now)) × (result ≤ length line.now) }
+    ensures place { result ≡ from + first (drop from line.now) }
+    ensures upper_bound { result ≤ length line.now }
 {
-    let mut i = from;
-    while i < line.len() {
-        if line[i] == b' ' {
-            return i;
-        }
-        i += 1;
+    match space_in(&line[from..]) {
+        Some(n) => from + n,
+        None => line.len(),
     }
-    i
 }
 
-// Whether two lists of bytes are the same.
-pub fn is_same(a: &[u8], b: &[u8]) -> bool
-    ensures { result ≡ same a.now b.now }
+// The value of a hex digit in lower case; its definition is 16 for any other byte.
+#[tactic(auto, using(std::proofs::lemmas::Bool::Decides::nat_tests), unfolding(crate::specs::Text::digit_of))]
+pub fn digit_of(b: u8) -> Option<u64>
+    ensures value { unwrap_or result 16 ≡ digit_of b }
+    ensures upper_bound { IfSome result (λ d. d < 16) }
 {
-    if a.len() != b.len() {
-        return false;
+    match b {
+        b'0'..=b'9' => Some(u64::from(b - b'0')),
+        b'a'..=b'f' => Some(u64::from(b - b'a') + 10),
+        _ => None,
     }
-    let mut i: usize = 0;
-    while i < a.len() {
-        if a[i] != b[i] {
-            return false;
-        }
-        i += 1;
-    }
-    true
-}
-
-// The value of a hex digit in lower case; 16 for any other byte.
-pub fn digit_of(b: u8) -> u64
-    ensures { result ≡ digit_of b }
-{
-    let x = b as u64;
-    if x < 0x30 {
-        return 16;
-    }
-    if x <= 0x39 {
-        return x - 0x30;
-    }
-    if x < 0x61 {
-        return 16;
-    }
-    if x <= 0x66 {
-        return x - 0x57;
-    }
-    16
 }
 
 // 1 to 16 hex digits.
-pub fn read_number(field: &[u8]) -> Number
+#[tactic(auto, using(crate::proofs::Hex::each_digit), unfolding(crate::specs::Text::number))]
+pub fn read_number(field: &[u8]) -> Option<u64>
     ensures { result ≡ number field.now }
 {
-    if field.len() == 0 {
-        return Number::None;
-    }
-    if field.len() > 16 {
-        return Number::None;
+    if field.is_empty() || field.len() > 16 {
+        return None;
     }
     let mut n: u64 = 0;
-    let mut i: usize = 0;
-    while i < field.len() {
-        let d = digit_of(field[i]);
-        if d > 15 {
-            return Number::None;
+    for b in field {
+        n = n * 16 + digit_of(*b)?;
+    }
+    Some(n)
+}
+
+// The numbers of a text, one space between: up to four.
+fn read_numbers(text: &[u8]) -> Option<ArrayVec<u64, 4>>
+    ensures { option_map (λ ns. ns.items) result ≡ numbers (Some []) (fields text.now) }
+{
+    let mut numbers = ArrayVec::new();
+    for field in text.split(|b| *b == b' ') {
+        numbers.try_push(read_number(field)?).ok()?;
+    }
+    Some(numbers)
+}
+
+// The command of a word with its numbers, if they are in range.
+#[tactic(auto, using(crate::proofs::Words::words), unfolding(crate::specs::Text::rows, crate::specs::Text::line_in))]
+fn command_of(word: &[u8], numbers: &[u64]) -> Option<Command>
+    ensures { result ≡ line_in (rows (Some numbers.now)) word.now }
+{
+    match (numbers, word) {
+        (&[n], b"irqs") if n <= MOST => Some(Command::Irqs(n)),
+        (&[a], b"vcpu") if a <= MOST => Some(Command::Vcpu(a as u32)),
+        (&[], b"init") => Some(Command::Init),
+        (&[v, on], b"run") if v <= MOST && on <= 1 => Some(Command::Run(v as usize, on == 1)),
+        (&[v, offset], b"dr") if v <= MOST && offset <= MOST => {
+            Some(Command::Dr(v as usize, offset))
         }
-        n = n * 16 + d;
-        i += 1;
-    }
-    Number::Hex(n)
-}
-
-// One number more.
-fn one_more(numbers: Numbers, number: Number) -> Numbers
-    ensures { result ≡ further numbers number }
-{
-    let Number::Hex(n) = number else {
-        return Numbers::Bad;
-    };
-    match numbers {
-        Numbers::Zero => Numbers::One(n),
-        Numbers::One(a) => Numbers::Two(a, n),
-        Numbers::Two(a, b) => Numbers::Three(a, b, n),
-        Numbers::Three(a, b, c) => Numbers::Four(a, b, c, n),
-        Numbers::Four(_, _, _, _) => Numbers::Bad,
-        Numbers::Bad => Numbers::Bad,
-    }
-}
-
-// The numbers from `from` on, each after one space.
-fn read_numbers(line: &[u8], from: usize) -> Numbers
-    requires { from ≤ length line.now }
-    ensures { result ≡ numbers Zero (spaced (drop from line.now)) }
-{
-    let mut numbers = Numbers::Zero;
-    let mut at = from;
-    while at < line.len() {
-        let begin = at + 1;
-        let end = field_end(line, begin);
-        numbers = one_more(numbers, read_number(&line[begin..end]));
-        at = end;
-    }
-    numbers
-}
-
-// ---- the twelve words, by how many numbers they take
-
-// A command whose numbers are in range.
-fn good_if(fits: bool, command: Command) -> Parsed
-    ensures { result ≡ cond fits (Good command) Bad }
-{
-    if fits {
-        return Parsed::Good(command);
-    }
-    Parsed::Bad
-}
-
-// init
-fn with_none(word: &[u8]) -> Parsed
-    ensures { result ≡ line_in (rows Zero) word.now }
-{
-    if is_same(word, b"init") {
-        return Parsed::Good(Command::Init);
-    }
-    Parsed::Bad
-}
-
-// irqs N, vcpu A, sig V
-fn with_one(word: &[u8], a: u64) -> Parsed
-    ensures { result ≡ line_in (rows (One a)) word.now }
-{
-    if is_same(word, b"irqs") {
-        return good_if(a <= MOST, Command::Irqs(a));
-    }
-    if is_same(word, b"vcpu") {
-        if a > MOST {
-            return Parsed::Bad;
+        (&[v, offset, x], b"dw") if v <= MOST && offset <= MOST && x <= MOST => {
+            Some(Command::Dw(v as usize, offset, x))
         }
-        return Parsed::Good(Command::Vcpu(a as u32));
-    }
-    if is_same(word, b"sig") {
-        return good_if(a <= MOST, Command::Sig(a as usize));
-    }
-    Parsed::Bad
-}
-
-// run V L, dr V OFF, sr V ENC
-fn with_two(word: &[u8], a: u64, b: u64) -> Parsed
-    ensures { result ≡ line_in (rows (Two a b)) word.now }
-{
-    if is_same(word, b"run") {
-        return good_if((a <= MOST) & (b <= 1), Command::Run(a as usize, b == 1));
-    }
-    if is_same(word, b"dr") {
-        return good_if((a <= MOST) & (b <= MOST), Command::Dr(a as usize, b));
-    }
-    if is_same(word, b"sr") {
-        return good_if((a <= MOST) & (b <= MOST), Command::Sr(a as usize, b));
-    }
-    Parsed::Bad
-}
-
-// dw V OFF VAL, rr V F OFF, sw V ENC VAL, line V ID L
-fn with_three(word: &[u8], a: u64, b: u64, c: u64) -> Parsed
-    ensures { result ≡ line_in (rows (Three a b c)) word.now }
-{
-    if is_same(word, b"dw") {
-        return good_if(
-            (a <= MOST) & (b <= MOST) & (c <= MOST),
-            Command::Dw(a as usize, b, c),
-        );
-    }
-    if is_same(word, b"rr") {
-        return good_if(
-            (a <= MOST) & (b <= MOST) & (c <= MOST),
-            Command::Rr(a as usize, b as usize, c),
-        );
-    }
-    if is_same(word, b"sw") {
-        return good_if((a <= MOST) & (b <= MOST), Command::Sw(a as usize, b, c));
-    }
-    if is_same(word, b"line") {
-        return good_if(
-            (a <= MOST) & (b <= MOST) & (c <= 1),
-            Command::Line(a as usize, b as usize, c == 1),
-        );
-    }
-    Parsed::Bad
-}
-
-// rw V F OFF VAL
-fn with_four(word: &[u8], a: u64, b: u64, c: u64, d: u64) -> Parsed
-    ensures { result ≡ line_in (rows (Four a b c d)) word.now }
-{
-    if is_same(word, b"rw") {
-        return good_if(
-            (a <= MOST) & (b <= MOST) & (c <= MOST) & (d <= MOST),
-            Command::Rw(a as usize, b as usize, c, d),
-        );
-    }
-    Parsed::Bad
-}
-
-// A word with its numbers.
-fn with_numbers(word: &[u8], numbers: Numbers) -> Parsed
-    ensures { result ≡ line_in (rows numbers) word.now }
-{
-    match numbers {
-        Numbers::Zero => with_none(word),
-        Numbers::One(a) => with_one(word, a),
-        Numbers::Two(a, b) => with_two(word, a, b),
-        Numbers::Three(a, b, c) => with_three(word, a, b, c),
-        Numbers::Four(a, b, c, d) => with_four(word, a, b, c, d),
-        Numbers::Bad => Parsed::Bad,
+        (&[v, f, offset], b"rr") if v <= MOST && f <= MOST && offset <= MOST => {
+            Some(Command::Rr(v as usize, f as usize, offset))
+        }
+        (&[v, f, offset, x], b"rw") if v <= MOST && f <= MOST && offset <= MOST && x <= MOST => {
+            Some(Command::Rw(v as usize, f as usize, offset, x))
+        }
+        (&[v, encoding], b"sr") if v <= MOST && encoding <= MOST => {
+            Some(Command::Sr(v as usize, encoding))
+        }
+        (&[v, encoding, x], b"sw") if v <= MOST && encoding <= MOST => {
+            Some(Command::Sw(v as usize, encoding, x))
+        }
+        (&[v, id, level], b"line") if v <= MOST && id <= MOST && level <= 1 => {
+            Some(Command::Line(v as usize, id as usize, level == 1))
+        }
+        (&[v], b"sig") if v <= MOST => Some(Command::Sig(v as usize)),
+        _ => None,
     }
 }
 
 // What a line is.
-pub fn parse_line(line: &[u8]) -> Parsed
+#[tactic(auto, using(crate::proofs::Spaces::a_line), unfolding(crate::specs::Text::rows, crate::specs::Text::line_in))]
+pub fn parse_line(line: &[u8]) -> Option<Command>
     ensures { result ≡ parsed line.now }
 {
     if line.len() > MOST_CHARACTERS {
-        return Parsed::Bad;
+        return None;
     }
     let end = field_end(line, 0);
-    let numbers = read_numbers(line, end);
-    with_numbers(&line[..end], numbers)
+    if end == line.len() {
+        return command_of(line, &[]);
+    }
+    let numbers = read_numbers(&line[end + 1..])?;
+    command_of(&line[..end], numbers.as_slice())
 }

@@ -1,4 +1,5 @@
 -- A line change: which interrupts have a line, the latch and then the line.
+use Rattle.std.specs.Prelude.{Ok}
 use Prim.Native.Nat.{ℕ, zero, suc, ◌+◌, ◌-◌, ◌/◌, ◌%◌, ◌≤◌, ◌<◌}
 use mathlib.Core.Path.{◌≡◌, refl, sym, ap, ◌∙◌}
 use mathlib.Core.Bool.{Bool, true, false, cond, ◌&&◌}
@@ -13,15 +14,13 @@ use lib.Dec.{leb, ltb}
 use Rattle.model.specs.Layout.{most_vcpus, word, vcpus, bank}
 use Rattle.model.specs.Interrupts.{is_private, is_ppi, is_spi, set_flag}
 use Rattle.model.specs.Sound.{sound}
-use Rattle.model.specs.Refusals.{first_failing}
+use Rattle.model.specs.Refusals.{Refusal, first_failing}
 use Rattle.model.specs.Lines.{latches, line_changed}
 use Rattle.model.specs.Calls.{has_line, vcpu_checks, phase}
 use Rattle.model.specs.declared.Phase.{Phase}
 use Rattle.model.specs.declared.Phase.TheVariants.{Changing}
 use Rattle.model.proofs.Kept.{in-phase}
 use Rattle.model.specs.declared.Errno.TheVariants.{Efault, Einval}
-use Rattle.model.specs.declared.Refusal.{Refusal}
-use Rattle.model.specs.declared.Refusal.TheVariants.{None}
 use Rattle.model.proofs.Tests.{both}
 use Rattle.model.proofs.Fields.{spi-within}
 use Rattle.state.proofs.Admitted.{admitted}
@@ -108,11 +107,11 @@ line-stored s p t u v id level e q r = rw (r, q, same-bank s v id u e)
 
 -- ---- where the change is not refused
 
-pub line-admitted : (s t : List ℕ) (r : Refusal) (v id : ℕ) → r ≡ first_failing ((sound s, Efault) ∷ phase Changing s ∷ (has_line s v id, Einval) ∷ []) → r ≡ None → t ≡ s
+pub line-admitted : (s t : List ℕ) (r : Refusal) (v id : ℕ) → r ≡ first_failing ((sound s, Efault) ∷ phase Changing s ∷ (has_line s v id, Einval) ∷ []) → r ≡ Ok tt → t ≡ s
     → has_line t v id ≡ true
 line-admitted s t r v id e n q = rw q (admitted s r (phase Changing s ∷ (has_line s v id, Einval) ∷ []) e n).1.1.0
 
 -- ---- what the signal asks, where its query is not refused
 
-pub vcpu-usable : (v : ℕ) (s : List ℕ) (q : Refusal) (f : Phase) → q ≡ first_failing ((sound s, Efault) ∷ vcpu_checks f v s) → q ≡ None → Usable s v
+pub vcpu-usable : (v : ℕ) (s : List ℕ) (q : Refusal) (f : Phase) → q ≡ first_failing ((sound s, Efault) ∷ vcpu_checks f v s) → q ≡ Ok tt → Usable s v
 vcpu-usable v s q f p h = let d = admitted s q (vcpu_checks f v s) p h in usable s v d.0 (in-phase f s d.1.0) d.1.1.0

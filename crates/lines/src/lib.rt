@@ -12,29 +12,29 @@ ghost use Rattle.model.specs.declared.Errno.TheVariants.{Efault, Einval};
 ghost use Rattle.model.specs.declared.Phase.TheVariants.{Changing};
 ghost use Rattle.lines.specs.Lines.{rises_in, rise_latched};
 
-use model::layout::{BANK_LENGTH, EDGES, LATCH, LINE, VCPUS};
-use model::{Answer, Errno, Phase, Refusal};
+use model::layout::{BANK_LENGTH, EDGES, LATCH, LINE, STATE_LENGTH, State, VCPUS};
+use model::{Errno, Phase};
 use priority::acknowledge::signal;
-use state::{VcpuIndex, bank_at, in_phase, is_sound, is_spi, put_flag, vcpu_refusal, wide};
+use state::{Vcpu, VcpuIndex, bank_at, check_vcpu, in_phase, is_sound, is_spi, put_flag, wide};
 use words::has_bit;
 
 // ---- the signal
 
 // Whether IAR1 or IAR0 would give vCPU `v` an interrupt, running or not.
-pub fn query_signal(s: &[u32], v: VcpuIndex) -> Answer
+pub fn query_signal(s: &[u32], v: VcpuIndex) -> Result<u32, Errno>
     ensures { Does (call (query_signal v.0) s.now) (number result) s.now [] }
 {
-    if let Refusal::Refuse(e) = vcpu_refusal(s, Phase::Initialised, v) {
-        return Answer::Refused(e);
-    }
-    Answer::Value(signal(s, v))
+    let Some(s) = s.as_array::<STATE_LENGTH>() else {
+        return Err(Errno::Efault);
+    };
+    check_vcpu(s, Phase::Initialised, v)?;
+    Ok(signal(s, Vcpu::at(v)))
 }
 
 // ---- line change
 
 // Whether the ID is a PPI of a vCPU that is there, or an SPI, whose line ignores the index.
-fn has_line(s: &[u32], v: VcpuIndex, id: usize) -> bool
-    requires { length s.now ≡ state_length }
+fn has_line(s: &State, v: VcpuIndex, id: usize) -> bool
     ensures { result ≡ has_line s.now v.0 id }
 {
     if (16 <= id) & (id < 32) {
@@ -44,19 +44,19 @@ fn has_line(s: &[u32], v: VcpuIndex, id: usize) -> bool
 }
 
 // 14 not sound; 16 another phase; 22 a missing index, or no PPI or SPI.
-fn line_refusal(s: &[u32], v: VcpuIndex, id: usize) -> Refusal
+fn check_line(s: &State, v: VcpuIndex, id: usize) -> Result<(), Errno>
     ensures { result ≡ first_failing ((sound s.now, Efault) ∷ phase Changing s.now ∷ (has_line s.now v.0 id, Einval) ∷ []) }
 {
     if !is_sound(s) {
-        return Refusal::Refuse(Errno::Efault);
+        return Err(Errno::Efault);
     }
     if !in_phase(s, Phase::Changing) {
-        return Refusal::Refuse(Errno::Ebusy);
+        return Err(Errno::Ebusy);
     }
     if !has_line(s, v, id) {
-        return Refusal::Refuse(Errno::Einval);
+        return Err(Errno::Einval);
     }
-    Refusal::None
+    Ok(())
 }
 
 // Whether interrupt `i` of a bank is edge, and its line goes 0 to 1.
@@ -75,9 +75,9 @@ fn vcpu_for(v: VcpuIndex, id: usize) -> VcpuIndex
 }
 
 // Latches interrupt `id` where it is edge and its line goes 0 to 1.
-fn latch_rise(s: &mut [u32], v: VcpuIndex, id: usize, level: bool)
-    requires { (length s.old ≡ state_length) × (v.0 < most_vcpus) × (id < 1024) }
-    ensures { s.new ≡ rise_latched s.old v.0 id level }
+fn latch_rise(s: &mut State, v: Vcpu, id: usize, level: bool)
+    requires { id < 1024 }
+    ensures { s.new ≡ rise_latched s.old v.index id level }
 {
     let at = bank_at(v, id / 32);
     if rises(&s[at..at + BANK_LENGTH], (id % 32) as u32, level) {
@@ -86,22 +86,23 @@ fn latch_rise(s: &mut [u32], v: VcpuIndex, id: usize, level: bool)
 }
 
 // Changes the line of interrupt `id`.
-fn write_line(s: &mut [u32], v: VcpuIndex, id: usize, level: bool)
-    requires { (length s.old ≡ state_length) × (vcpus s.old ≤ most_vcpus) × (has_line s.old v.0 id ≡ true) }
+fn write_line(s: &mut State, v: VcpuIndex, id: usize, level: bool)
+    requires { (vcpus s.old ≤ most_vcpus) × (has_line s.old v.0 id ≡ true) }
     ensures { s.new ≡ line_changed s.old v.0 id level }
 {
-    let seer = vcpu_for(v, id);
+    let seer = Vcpu::at(vcpu_for(v, id));
     latch_rise(s, seer, id, level);
     put_flag(s, LINE, level, seer, id);
 }
 
 // Changes the line of a PPI or SPI.
-pub fn change_line(s: &mut [u32], v: VcpuIndex, id: usize, level: bool) -> Answer
+pub fn change_line(s: &mut [u32], v: VcpuIndex, id: usize, level: bool) -> Result<u32, Errno>
     ensures { Does (call (change_line v.0 id level) s.old) (number result) s.new [] }
 {
-    if let Refusal::Refuse(e) = line_refusal(s, v, id) {
-        return Answer::Refused(e);
-    }
+    let Some(s) = s.as_mut_array::<STATE_LENGTH>() else {
+        return Err(Errno::Efault);
+    };
+    check_line(s, v, id)?;
     write_line(s, v, id, level);
-    Answer::Value(0)
+    Ok(0)
 }

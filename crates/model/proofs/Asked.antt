@@ -1,4 +1,5 @@
 -- Gets of listed attributes as calls: a get answers what the word shows, a put takes that value, and what an answered get tells of its number.
+use Rattle.std.specs.Prelude.{Ok}
 use Prim.Native.Nat.{ℕ, zero, suc, ◌+◌, ◌-◌, ◌*◌, ◌/◌, ◌%◌, ◌^◌, ◌≤◌, ◌<◌}
 use mathlib.Core.Path.{◌≡◌, refl, sym, ap, ◌∙◌}
 use mathlib.Core.Bool.{Bool, true, false, true≢false, false≢true}
@@ -10,7 +11,6 @@ use lib.Dec.{eqb, ltb}
 use lib.IntN.{pos, neg_ℤ}
 use Rattle.model.specs.Words.{lowest}
 use Rattle.model.specs.Layout.{word, vcpus, ctlr_field, ctlr_at}
-use Rattle.model.specs.declared.Refusal.TheVariants.{None}
 use Rattle.model.specs.Interface.{plain_takes}
 use Rattle.model.specs.Attributes.{Attribute, low, high, group_of, index_of, number_ok, affinity_known, item, item_in, item_of, known, register_takes, takes, item_read}
 use Rattle.model.specs.Calls.{Call, get_attribute, call, register_checks, get_checks, refusal, get_value, describe}
@@ -204,7 +204,7 @@ get-answers s hs {a} l = (is-granted c s grants).answer ∙ ap pos (rw (e, ← i
     i : item_of a s ≡ item (group_for l) a.number s
     i = item-of a s (group_for l) e
 
-    grants : refusal c s ≡ None
+    grants : refusal c s ≡ Ok tt
     grants =
         tests-next c s hs.is_sound ∙ rw e (none_of (register_checks (group_for l) a.number s)
         (number_ok_listed s h l, (affinity-known s h l, (hs.is_stopped, (rw (← i, names-item s h l) (named-known s h l), tt)))))

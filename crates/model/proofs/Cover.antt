@@ -1,4 +1,5 @@
 -- The places of the listed attributes cover every word that may differ between two sound, stopped devices of equal set-up: the listed values decide the state.
+use Rattle.std.specs.Prelude.{Option}
 use Prim.Native.Nat.{ℕ, zero, suc, ◌+◌, ◌*◌, ◌-◌, ◌/◌, ◌%◌, ◌^◌, ◌≤◌, ◌<◌}
 use mathlib.Core.Path.{◌≡◌, refl, sym, ap, ◌∙◌, subst}
 use mathlib.Core.Bool.{false}
@@ -262,7 +263,7 @@ module _ (s : List ℕ) (h : Ready s) where
   shows (vcpu-system v igrpen1 l) = itself-shows _ (place_inside (vcpu-system v igrpen1 l))
 
 -- the same attribute on a device of the same set-up: at the same place, shown alike, naming the same item
-pub record Carried (t : List ℕ) (p : ℕ) (k : Shape) (i : Item) (a : Attribute) : Type 0 where
+pub record Carried (t : List ℕ) (p : ℕ) (k : Shape) (i : Option Item) (a : Attribute) : Type 0 where
   pub there : Listed t a
   pub place : place_of there ≡ p
   pub shape : shape_of there ≡ k
@@ -275,7 +276,7 @@ module _ (s t : List ℕ) (same : Alike s t) where
   pub vcpu-of : (v : ℕ) → v < vcpus s → v < vcpus t
   vcpu-of v l = rw same.same_number l
 
-  of-vcpu : (v g a : ℕ) {p : ℕ} {k : Shape} {i : Item} → v < vcpus s → Carried t p k i (attr g (of_vcpu t v a)) → Carried t p k i (attr g (of_vcpu s v a))
+  of-vcpu : (v g a : ℕ) {p : ℕ} {k : Shape} {i : Option Item} → v < vcpus s → Carried t p k i (attr g (of_vcpu t v a)) → Carried t p k i (attr g (of_vcpu s v a))
   of-vcpu v g a {p} {k} {i} l c = subst (λ (x : ℕ). Carried t p k i (attr g (x * 2 ^ 32 + a))) (same.same_affinities v l) c
 
   pub carried : {a : Attribute} (l : Listed s a) → Carried t (place_of l) (shape_of l) (named_by l) a

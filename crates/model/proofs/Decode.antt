@@ -1,4 +1,5 @@
 -- Every offset falls in exactly one row of its table, or in none; every encoding names one system register, or none.
+use Rattle.std.specs.Prelude.{Some, None}
 use Prim.Native.Nat.{ℕ, zero, suc, ◌+◌, ◌*◌, ◌-◌, ◌/◌, ◌%◌, ◌<◌, ◌≤◌}
 use mathlib.Core.Path.{◌≡◌, refl, sym, ap, ◌∙◌}
 use mathlib.Core.Bool.{Bool, true, false, not, ◌&&◌}
@@ -9,15 +10,13 @@ use native.Mathlib.Omega.{arith}
 use lib.Dec.{eqb, ltb, leb}
 use lib.ListN.{length, get_or}
 use borrow.Author.Tests.{le-leb, lt-ltb, ltb-true, leb-true, eqb-true, eqb-false, eq-eqb, not-true}
-use Rattle.model.specs.Registers.{Row, row, in_row, decode, rows, banks, words_of}
-use Rattle.model.specs.Interface.{SystemRow, system_rows, system_in, system, group_in}
+use Rattle.model.specs.Registers.{Decoded, Row, row, in_row, decode, rows, banks, words_of}
+use Rattle.model.specs.Interface.{SystemRow, system_rows, system_in, system}
 use Rattle.model.specs.declared.View.{View}
 use Rattle.model.specs.declared.View.TheVariants.{Distributor, Frame}
 use Rattle.model.specs.declared.Flags.TheVariants.{Group, SetEnable, SetPending, SetActive}
 use Rattle.model.specs.declared.Register.{Register}
 use Rattle.model.specs.declared.Register.TheVariants.{Control, Status, Bits, Priority, Config, Route}
-use Rattle.model.specs.declared.Decoded.{Decoded}
-use Rattle.model.specs.declared.Decoded.TheVariants.{Listed, Unlisted}
 use Rattle.model.specs.declared.SystemRegister.{SystemRegister}
 use Rattle.model.specs.declared.SystemRegister.TheVariants.{Unnamed}
 use Rattle.model.proofs.Tests.{both, not-both}
@@ -32,7 +31,7 @@ pub record Only {A B : Type 0} (f : A → Bool) (xs : List A) (r : A) (v w : B) 
   pub is : v ≡ w
 
 -- no member passes the test f, and the value v is w
-pub record None {A B : Type 0} (f : A → Bool) (xs : List A) (v w : B) : Type 0 where
+pub record NoneOf {A B : Type 0} (f : A → Bool) (xs : List A) (v w : B) : Type 0 where
   pub none : (q : A) → Memᴰ q xs → f q ≡ false
   pub is : v ≡ w
 
@@ -48,7 +47,7 @@ module _ {A B : Type 0} (f : A → Bool) (g : A → B) (d : B) where
   Apart (x ∷ xs) = ((q : A) → Memᴰ q xs → f x ≡ true → f q ≡ true → ⊥) × Apart xs
 
   abbrev OneOrNone : List A → B → Type 0
-  OneOrNone xs v = None f xs v d ⊎ ((r : A) × Only f xs r v (g r))
+  OneOrNone xs v = NoneOf f xs v d ⊎ ((r : A) × Only f xs r v (g r))
 
   one-or-none : (xs : List A) → Apart xs → OneOrNone xs (pick xs)
   unfolding pick
@@ -63,7 +62,7 @@ module _ {A B : Type 0} (f : A → Bool) (g : A → B) (d : B) where
       past p r o q l (inl e) = absurd (not-both (f x) (rw e at l) p)
       past p r o q l (inr m) = o.only q m l
 
-      fails : f x ≡ false → None f xs (pick xs) d → (q : A) → (q ≡ x) ⊎ Memᴰ q xs → f q ≡ false
+      fails : f x ≡ false → NoneOf f xs (pick xs) d → (q : A) → (q ≡ x) ⊎ Memᴰ q xs → f q ≡ false
       fails p o q (inl e) = rw e p
       fails p o q (inr m) = o.none q m
 
@@ -146,15 +145,15 @@ has_offset off r = in_row r off
 
 -- the row's register, and the number of the word at the offset
 abbrev pub decoded_in : ℕ → Row → Decoded
-decoded_in off r = Listed r.register ((off - r.first) / 4)
+decoded_in off r = Some (r.register, ((off - r.first) / 4))
 
-rows-single : (n : ℕ) (rs : List Row) → apart_from n rs ≡ true → (off : ℕ) → Apart (has_offset off) (decoded_in off) Unlisted rs
+rows-single : (n : ℕ) (rs : List Row) → apart_from n rs ≡ true → (off : ℕ) → Apart (has_offset off) (decoded_in off) None rs
 rows-single n [] e off = tt
 rows-single n (r ∷ rs) e off =
     let h = (next n r rs e).rest in
     (λ q m p l. omega (arith, in-row r off p, in-row q off l, starts (r.last + 4) rs h q m), rows-single (r.last + 4) rs h off)
 
-decode-picks : (rs : List Row) (off : ℕ) → pick (has_offset off) (decoded_in off) Unlisted rs ≡ decode rs off
+decode-picks : (rs : List Row) (off : ℕ) → pick (has_offset off) (decoded_in off) None rs ≡ decode rs off
 unfolding decode pick
 decode-picks [] off = refl
 decode-picks (r ∷ rs) off = ap (λ (d : Decoded). elim (in_row r off) [ true ↦ decoded_in off r | false ↦ d ]) (decode-picks rs off)
@@ -162,11 +161,11 @@ decode-picks (r ∷ rs) off = ap (λ (d : Decoded). elim (in_row r off) [ true �
 -- one row of the table has the offset, and it decodes to the row's register and the number of the word there; or none has it, and it decodes to nothing
 abbrev pub OneRow : List Row → ℕ → Type 0
 OneRow rs off =
-    None (has_offset off) rs (decode rs off) Unlisted ⊎ ((r : Row) × Only (has_offset off) rs r (decode rs off) (decoded_in off r))
+    NoneOf (has_offset off) rs (decode rs off) None ⊎ ((r : Row) × Only (has_offset off) rs r (decode rs off) (decoded_in off r))
 
 -- the general law, of any table whose rows are in order and apart
 pub table-one-row : (rs : List Row) → apart rs ≡ true → (off : ℕ) → OneRow rs off
-table-one-row rs e off = rw (decode-picks rs off) at (one-or-none (has_offset off) (decoded_in off) Unlisted rs (rows-single 0 rs e off))
+table-one-row rs e off = rw (decode-picks rs off) at (one-or-none (has_offset off) (decoded_in off) None rs (rows-single 0 rs e off))
 
 -- every offset falls in exactly one row of the distributor's table, or of a frame's, or in none
 pub offset-one-row : (x : View) (off : ℕ) → OneRow (rows x) off
@@ -186,14 +185,22 @@ pub record DecodedBy (f : Row → Bool) (off : ℕ) (r : Register) (k : ℕ) : T
   pub named : by.register ≡ r
   pub number : (off - by.first) / 4 ≡ k
 
-pub decoded-by : (f : Row → Bool) (rs : List Row) → each_row f rs ≡ true → (off : ℕ) (r : Register) (k : ℕ) → decode rs off ≡ Listed r k → DecodedBy f off r k
+pub decoded-by : (f : Row → Bool) (rs : List Row) → each_row f rs ≡ true → (off : ℕ) (r : Register) (k : ℕ) → decode rs off ≡ Some (r, k) → DecodedBy f off r k
 unfolding decode
 decoded-by f [] h off r k e = let z : ◌≡◌ {A = ℕ} 0 1 = cc in absurd (omega arith)
 decoded-by f (q ∷ rs) h off r k e = step (in_row q off) refl (decoded-by f rs (both (f q) (each_row f rs) h).1 off r k) e
   where
-    step : (t : Bool) → in_row q off ≡ t → (decode rs off ≡ Listed r k → DecodedBy f off r k)
-        → elim t [ true ↦ decoded_in off q | false ↦ decode rs off ] ≡ Listed r k → DecodedBy f off r k
-    step true i ih d = record { by = q; holds = (both (f q) (each_row f rs) h).0; inside = i; named = cc; number = cc }
+    step : (t : Bool) → in_row q off ≡ t → (decode rs off ≡ Some (r, k) → DecodedBy f off r k)
+        → ◌≡◌ {A = Decoded} (elim t [ true ↦ decoded_in off q | false ↦ decode rs off ]) (Some (r, k)) → DecodedBy f off r k
+    step true i ih d =
+        let w : ◌≡◌ {A = Register × ℕ} (q.register, (off - q.first) / 4) (r, k) = cc in
+        record {
+          by = q;
+          holds = (both (f q) (each_row f rs) h).0;
+          inside = i;
+          named = ap (λ (x : Register × ℕ). x.0) w;
+          number = ap (λ (x : Register × ℕ). x.1) w;
+        }
     step false i ih d = ih d
 
 -- the word at a row's last byte is one of the register's words in the view
@@ -206,7 +213,7 @@ rows_words Distributor = refl
 rows_words (Frame v) = refl
 
 -- an offset decodes to one of the register's words
-pub decode-words : (x : View) (off : ℕ) (r : Register) (k : ℕ) → decode (rows x) off ≡ Listed r k → k < words_of x r
+pub decode-words : (x : View) (off : ℕ) (r : Register) (k : ℕ) → decode (rows x) off ≡ Some (r, k) → k < words_of x r
 decode-words x off r k e =
     let d = decoded-by (words_fit x) (rows x) (rows_words x) off r k e in
     let l = ltb-true ((d.by.last + 3 - d.by.first) / 4) (words_of x d.by.register) d.holds in
@@ -221,7 +228,7 @@ frame-no-config : each_row no_config (rows (Frame 0)) ≡ true
 unfolding rows words_of banks
 frame-no-config = refl
 
-pub config-view : (x : View) (off k : ℕ) → decode (rows x) off ≡ Listed Config k → x ≡ Distributor
+pub config-view : (x : View) (off k : ℕ) → decode (rows x) off ≡ Some (Config, k) → x ≡ Distributor
 unfolding rows
 config-view Distributor off k e = refl
 config-view (Frame v) off k e =
@@ -231,7 +238,7 @@ config-view (Frame v) off k e =
 -- ---- the register at an offset, from the row
 
 pub row_at : (rs : List Row) → apart rs ≡ true → (r : Row) → Memᴰ r rs → (off : ℕ) → in_row r off ≡ true → decode rs off ≡ decoded_in off r
-row_at rs e r m off h = one-is (has_offset off) (decoded_in off) Unlisted rs (decode rs off) (table-one-row rs e off) r m h
+row_at rs e r m off h = one-is (has_offset off) (decoded_in off) None rs (decode rs off) (table-one-row rs e off) r m h
 
 -- the row at place k of a table
 abbrev pub row_of : List Row → ℕ → Row
@@ -244,7 +251,7 @@ row-member (r ∷ rs) (suc k) h = Memᴰ.tail (row-member rs k (omega arith))
 
 -- word w of the row at place k
 pub word_at : (x : View) (k w off : ℕ) → k < length (rows x) → (row_of (rows x) k).first + 4 * w ≤ off → off < (row_of (rows x) k).first + 4 * w + 4 → off < (row_of (rows x) k).last + 4
-    → decode (rows x) off ≡ Listed (row_of (rows x) k).register w
+    → decode (rows x) off ≡ Some ((row_of (rows x) k).register, w)
 word_at x k w off h l u t =
     let r = row_of (rows x) k in
     let n : (off - r.first) / 4 ≡ w = omega arith in
@@ -252,69 +259,69 @@ word_at x k w off h l u t =
 
 -- the same, at the word's own offset
 pub word_of : (x : View) (k w : ℕ) → k < length (rows x) → (row_of (rows x) k).first + 4 * w ≤ (row_of (rows x) k).last
-    → decode (rows x) ((row_of (rows x) k).first + 4 * w) ≡ Listed (row_of (rows x) k).register w
+    → decode (rows x) ((row_of (rows x) k).first + 4 * w) ≡ Some ((row_of (rows x) k).register, w)
 word_of x k w h t = word_at x k w ((row_of (rows x) k).first + 4 * w) h (omega arith) (omega arith) (omega arith)
 
 -- the distributor's registers of more than one word
-pub decode-group : (w : ℕ) → w < 32 → decode (rows Distributor) (0x80 + 4 * w) ≡ Listed (Bits Group) w
+pub decode-group : (w : ℕ) → w < 32 → decode (rows Distributor) (0x80 + 4 * w) ≡ Some ((Bits Group), w)
 unfolding rows
 decode-group w h = word_of Distributor 4 w (omega arith) (omega arith)
 
-pub decode-set-enable : (w : ℕ) → w < 32 → decode (rows Distributor) (0x100 + 4 * w) ≡ Listed (Bits SetEnable) w
+pub decode-set-enable : (w : ℕ) → w < 32 → decode (rows Distributor) (0x100 + 4 * w) ≡ Some ((Bits SetEnable), w)
 unfolding rows
 decode-set-enable w h = word_of Distributor 5 w (omega arith) (omega arith)
 
-pub decode-set-pending : (w : ℕ) → w < 32 → decode (rows Distributor) (0x200 + 4 * w) ≡ Listed (Bits SetPending) w
+pub decode-set-pending : (w : ℕ) → w < 32 → decode (rows Distributor) (0x200 + 4 * w) ≡ Some ((Bits SetPending), w)
 unfolding rows
 decode-set-pending w h = word_of Distributor 7 w (omega arith) (omega arith)
 
-pub decode-set-active : (w : ℕ) → w < 32 → decode (rows Distributor) (0x300 + 4 * w) ≡ Listed (Bits SetActive) w
+pub decode-set-active : (w : ℕ) → w < 32 → decode (rows Distributor) (0x300 + 4 * w) ≡ Some ((Bits SetActive), w)
 unfolding rows
 decode-set-active w h = word_of Distributor 9 w (omega arith) (omega arith)
 
-pub decode-priority : (w : ℕ) → w < 256 → decode (rows Distributor) (0x400 + 4 * w) ≡ Listed Priority w
+pub decode-priority : (w : ℕ) → w < 256 → decode (rows Distributor) (0x400 + 4 * w) ≡ Some (Priority, w)
 unfolding rows
 decode-priority w h = word_of Distributor 11 w (omega arith) (omega arith)
 
-pub decode-config : (w : ℕ) → w < 64 → decode (rows Distributor) (0xc00 + 4 * w) ≡ Listed Config w
+pub decode-config : (w : ℕ) → w < 64 → decode (rows Distributor) (0xc00 + 4 * w) ≡ Some (Config, w)
 unfolding rows
 decode-config w h = word_of Distributor 12 w (omega arith) (omega arith)
 
-pub decode-route : (w : ℕ) → w < 1976 → decode (rows Distributor) (0x6100 + 4 * w) ≡ Listed Route w
+pub decode-route : (w : ℕ) → w < 1976 → decode (rows Distributor) (0x6100 + 4 * w) ≡ Some (Route, w)
 unfolding rows
 decode-route w h = word_of Distributor 13 w (omega arith) (omega arith)
 
 -- and its others
-pub decode-control : decode (rows Distributor) 0x0 ≡ Listed Control 0
+pub decode-control : decode (rows Distributor) 0x0 ≡ Some (Control, 0)
 unfolding rows decode in_row
 decode-control = refl
 
-pub decode-status : decode (rows Distributor) 0x10 ≡ Listed Status 0
+pub decode-status : decode (rows Distributor) 0x10 ≡ Some (Status, 0)
 unfolding rows decode in_row
 decode-status = refl
 
 -- a frame's
-pub decode-frame-priority : (v w : ℕ) → w < 8 → decode (rows (Frame v)) (0x10400 + 4 * w) ≡ Listed Priority w
+pub decode-frame-priority : (v w : ℕ) → w < 8 → decode (rows (Frame v)) (0x10400 + 4 * w) ≡ Some (Priority, w)
 unfolding rows
 decode-frame-priority v w h = word_of (Frame v) 13 w (omega arith) (omega arith)
 
-pub decode-frame-status : (v : ℕ) → decode (rows (Frame v)) 0x10 ≡ Listed Status 0
+pub decode-frame-status : (v : ℕ) → decode (rows (Frame v)) 0x10 ≡ Some (Status, 0)
 unfolding rows decode in_row
 decode-frame-status v = refl
 
-pub decode-frame-group : (v : ℕ) → decode (rows (Frame v)) 0x10080 ≡ Listed (Bits Group) 0
+pub decode-frame-group : (v : ℕ) → decode (rows (Frame v)) 0x10080 ≡ Some ((Bits Group), 0)
 unfolding rows decode in_row
 decode-frame-group v = refl
 
-pub decode-frame-set-enable : (v : ℕ) → decode (rows (Frame v)) 0x10100 ≡ Listed (Bits SetEnable) 0
+pub decode-frame-set-enable : (v : ℕ) → decode (rows (Frame v)) 0x10100 ≡ Some ((Bits SetEnable), 0)
 unfolding rows decode in_row
 decode-frame-set-enable v = refl
 
-pub decode-frame-set-pending : (v : ℕ) → decode (rows (Frame v)) 0x10200 ≡ Listed (Bits SetPending) 0
+pub decode-frame-set-pending : (v : ℕ) → decode (rows (Frame v)) 0x10200 ≡ Some ((Bits SetPending), 0)
 unfolding rows decode in_row
 decode-frame-set-pending v = refl
 
-pub decode-frame-set-active : (v : ℕ) → decode (rows (Frame v)) 0x10300 ≡ Listed (Bits SetActive) 0
+pub decode-frame-set-active : (v : ℕ) → decode (rows (Frame v)) 0x10300 ≡ Some ((Bits SetActive), 0)
 unfolding rows decode in_row
 decode-frame-set-active v = refl
 
@@ -358,7 +365,7 @@ system-picks (r ∷ rs) e = ap (λ (d : SystemRegister). elim (has_encoding e r)
 -- one row of the table has the encoding, which names its register; or none has it, and it names nothing
 abbrev pub OneEncoding : List SystemRow → ℕ → Type 0
 OneEncoding rs e =
-    None (has_encoding e) rs (system_in rs e) Unnamed ⊎ ((r : SystemRow) × Only (has_encoding e) rs r (system_in rs e) r.register)
+    NoneOf (has_encoding e) rs (system_in rs e) Unnamed ⊎ ((r : SystemRow) × Only (has_encoding e) rs r (system_in rs e) r.register)
 
 -- the general law, of any table with no encoding twice
 pub table-one-encoding : (rs : List SystemRow) → distinct rs ≡ true → (e : ℕ) → OneEncoding rs e
@@ -387,8 +394,3 @@ register-passes f (r ∷ rs) h e = step (eqb e r.encoding) (both (f r.register) 
     step : (t : Bool) → f r.register ≡ true → f (system_in rs e) ≡ true → f (elim t [ true ↦ r.register | false ↦ system_in rs e ]) ≡ true
     step true p ih = p
     step false p ih = ih
-
--- the interrupt group of a system register is 0 or 1
-pub system-group : (e : ℕ) → group_in (system e) < 2
-unfolding system
-system-group e = ltb-true (group_in (system_in system_rows e)) 2 (register-passes (λ r. ltb (group_in r) 2) system_rows refl e)

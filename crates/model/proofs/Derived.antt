@@ -1,4 +1,5 @@
 -- The laws of the derived words: what else speaks of them cites these. Only this file, and `grants` of proofs/Refused for the code, opens `with_derived`.
+use Rattle.std.specs.Prelude.{Option}
 use Prim.Native.Nat.{ℕ, ◌≤◌, ◌<◌}
 use mathlib.Core.Path.{◌≡◌, refl, sym, ◌∙◌}
 use mathlib.Core.Bool.{true, false}
@@ -55,7 +56,7 @@ core-decides s t hs ht same =
     ext_get_or 0 t s (lt ∙ sym ls) (λ k l. same k (omega arith) (none-derived k))
 
 -- no register and no record shows them
-pub with-reads : (s : List ℕ) (i : Item) → item_read (with_derived s) i ≡ item_read s i
+pub with-reads : (s : List ℕ) (i : Option Item) → item_read (with_derived s) i ≡ item_read s i
 unfolding with_derived
 with-reads s i = refl
 

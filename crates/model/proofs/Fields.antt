@@ -1,4 +1,4 @@
--- The numbers of SPIs and of banks, and the fields of an interrupt as bits of the words of its bank.
+-- The numbers of SPIs, of banks and of interrupt groups, and the fields of an interrupt as bits of the words of its bank.
 use Prim.Native.Nat.{ℕ, zero, suc, ◌+◌, ◌*◌, ◌/◌, ◌%◌, ◌^◌, ◌≤◌, ◌<◌, min}
 use mathlib.Core.Path.{◌≡◌, refl}
 use mathlib.Core.Bool.{true}
@@ -10,6 +10,9 @@ use Rattle.model.specs.Words.{bit}
 use Rattle.model.specs.Layout.{word, count, bank}
 use Rattle.model.specs.Interrupts.{is_spi, flag, edge, priority}
 use Rattle.model.specs.Registers.{banks}
+use Rattle.model.specs.Interface.{group_index}
+use Rattle.model.specs.declared.InterruptGroup.{InterruptGroup}
+use Rattle.model.specs.declared.InterruptGroup.TheVariants.{Group0, Group1}
 use Rattle.model.specs.declared.View.{View}
 use Rattle.model.specs.declared.View.TheVariants.{Distributor, Frame}
 use Rattle.model.proofs.Tests.{both, and-true}
@@ -28,6 +31,10 @@ pub banks-most : (x : View) → banks x ≤ 32
 unfolding banks
 banks-most Distributor = omega arith
 banks-most (Frame v) = omega arith
+
+pub group_below : (g : InterruptGroup) → group_index g < 2
+group_below Group0 = omega arith
+group_below Group1 = omega arith
 
 pub bank-at : (v w : ℕ) → 1 ≤ w → bank v w ≡ 256 + 16 * w
 bank-at v zero l = absurd (omega arith)

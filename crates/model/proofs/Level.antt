@@ -1,4 +1,5 @@
 -- Where IARg gives an interrupt, the bit of its group priority is clear in APgR: a read of a system register is never refused with EIO.
+use Rattle.std.specs.Prelude.{Ok, Err}
 use Prim.Native.Nat.{ℕ, zero, suc, ◌*◌, ◌<◌}
 use mathlib.Core.Path.{◌≡◌, refl}
 use mathlib.Core.Bool.{Bool, true, false, not, cond, ◌&&◌, ◌||◌, true≢false}
@@ -9,11 +10,9 @@ use lib.Dec.{eqb, ltb}
 use lib.IntN.{pos, neg_ℤ}
 use Rattle.model.specs.Words.{bit}
 use Rattle.model.specs.Layout.{word, pmr_at, apr_at, running}
-use Rattle.model.specs.Interface.{system, read_group, group_in, best, nothing, found, rank_priority, group_priority, running_level, of_group, gives, offered, level_of, level_clear, system_read_clear}
-use Rattle.model.specs.Refusals.{Check, first_failing, errno}
+use Rattle.model.specs.Interface.{group_index, system, best, nothing, found, rank_priority, group_priority, running_level, of_group, gives, offered, level_of, level_clear, system_read_clear}
+use Rattle.model.specs.Refusals.{Refusal, Check, first_failing, errno}
 use Rattle.model.specs.Calls.{read_system, acceptable, guest_checks, read_checks, checks, is_vcpu, refusal, call, describe, in_phase, read_phase}
-use Rattle.model.specs.declared.Refusal.{Refusal}
-use Rattle.model.specs.declared.Refusal.TheVariants.{None, Refuse}
 use Rattle.model.specs.declared.Errno.{Errno}
 use Rattle.model.specs.declared.Errno.TheVariants.{Eperm, Enxio, Efault, Ebusy, Einval}
 use Rattle.model.specs.declared.Readable.{Readable}
@@ -21,7 +20,7 @@ use Rattle.model.specs.declared.Readable.TheVariants.{Iar, Hppir, Rpr}
 use Rattle.model.specs.declared.SystemRegister.{SystemRegister}
 use Rattle.model.specs.declared.SystemRegister.TheVariants.{Both, Read, Write, Unnamed}
 use Rattle.model.proofs.Tests.{both, below-lowest}
-use Rattle.model.proofs.Decode.{system-group}
+use Rattle.model.proofs.Fields.{group_below}
 use Rattle.model.proofs.Refused.{negative-errno}
 
 or-false : (a b : Bool) → (a || b) ≡ false → (a ≡ false) × (b ≡ false)
@@ -71,19 +70,19 @@ offered-clear s v g h = step (gives s v g (best s v)) refl
 
 -- ---- no read of a system register is refused with EIO, at any state
 
-read-clear : (s : List ℕ) (v : ℕ) (r : Readable) → read_group r < 2 → system_read_clear s v r ≡ true
+read-clear : (s : List ℕ) (v : ℕ) (r : Readable) → system_read_clear s v r ≡ true
 unfolding system_read_clear
-read-clear s v (Iar g) h = offered-clear s v g h
-read-clear s v (Hppir g) h = refl
-read-clear s v Rpr h = refl
+read-clear s v (Iar g) = offered-clear s v (group_index g) (group_below g)
+read-clear s v (Hppir g) = refl
+read-clear s v Rpr = refl
 
 abbrev Other : ℕ → Refusal → Type 0
-Other k r = (e : Errno) → r ≡ Refuse e → errno e ≡ k → ⊥
+Other k r = (e : Errno) → r ≡ Err e → errno e ≡ k → ⊥
 
-other_none : (k : ℕ) → Other k None
+other_none : (k : ℕ) → Other k (Ok tt)
 other_none k e h q = let z : ◌≡◌ {A = ℕ} 0 1 = cc in omega arith
 
-other-refuse : (k : ℕ) (n : Errno) → (errno n ≡ k → ⊥) → Other k (Refuse n)
+other-refuse : (k : ℕ) (n : Errno) → (errno n ≡ k → ⊥) → Other k (Err n)
 other-refuse k n h e q l = let same : n ≡ e = cc in h (rw same l)
 
 other-next : (k : ℕ) (b : Bool) (n : Errno) (cs : List Check) → (errno n ≡ k → ⊥) → Other k (first_failing cs) → Other k (first_failing ((b, n) ∷ cs))
@@ -91,24 +90,24 @@ unfolding first_failing
 other-next k true n cs h o = o
 other-next k false n cs h o = other-refuse k n h
 
-read-other : (s : List ℕ) (v : ℕ) (r : SystemRegister) → group_in r < 2 → Other 5 (first_failing (read_checks r v s))
+read-other : (s : List ℕ) (v : ℕ) (r : SystemRegister) → Other 5 (first_failing (read_checks r v s))
 unfolding read_checks first_failing errno
-read-other s v (Both p) h = other_none 5
-read-other s v (Read r) h = rw (read-clear s v r h) (other_none 5)
-read-other s v (Write w) h = other-refuse 5 Enxio (omega arith)
-read-other s v Unnamed h = other-refuse 5 Enxio (omega arith)
+read-other s v (Both p) = other_none 5
+read-other s v (Read r) = rw (read-clear s v r) (other_none 5)
+read-other s v (Write w) = other-refuse 5 Enxio (omega arith)
+read-other s v Unnamed = other-refuse 5 Enxio (omega arith)
 
 checks-other : (v e : ℕ) (s : List ℕ) → Other 5 (first_failing (checks (read_system v e) s))
 unfolding describe guest_checks errno
 checks-other v e s =
     other-next 5 (in_phase (read_phase (system e)) s) Ebusy _ (omega arith)
-    (other-next 5 (is_vcpu s v) Einval _ (omega arith) (other-next 5 (eqb (running s v) 1) Eperm _ (omega arith) (read-other s v (system e) (system-group e))))
+    (other-next 5 (is_vcpu s v) Einval _ (omega arith) (other-next 5 (eqb (running s v) 1) Eperm _ (omega arith) (read-other s v (system e))))
 
 refusal-other : (v e : ℕ) (s : List ℕ) → Other 5 (refusal (read_system v e) s)
 unfolding refusal errno
 refusal-other v e s = step (acceptable (read_system v e) s)
   where
-    step : (t : Bool) → Other 5 (elim t [ true ↦ first_failing (checks (read_system v e) s) | false ↦ Refuse Efault ])
+    step : (t : Bool) → Other 5 (elim t [ true ↦ first_failing (checks (read_system v e) s) | false ↦ Err Efault ])
     step true = checks-other v e s
     step false = other-refuse 5 Efault (omega arith)
 

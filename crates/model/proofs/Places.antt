@@ -1,4 +1,5 @@
 -- Each listed attribute is one word of the state, at a place of its own, and what it reads is one-to-one in that word.
+use Rattle.std.specs.Prelude.{Some, None, Option}
 use Prim.Native.Nat.{ℕ, zero, suc, ◌+◌, ◌*◌, ◌-◌, ◌/◌, ◌%◌, ◌^◌, ◌≤◌, ◌<◌}
 use mathlib.Core.Path.{◌≡◌, refl, sym, ap, ◌∙◌}
 use mathlib.Core.Bool.{Bool, true, false, cond, ◌&&◌}
@@ -12,7 +13,7 @@ use lib.ListN.{get_or}
 use Rattle.model.specs.Words.{bit, lowest, spread}
 use Rattle.model.specs.Layout.{word, vcpus, block, bank, affinity, route_at, pmr_at, bpr_at, apr_at, ctlr_at, igrpen_at, affinity_at, bpr_field}
 use Rattle.model.specs.Registers.{decode, rows, read, flags, shown_to, status_at, seen_by}
-use Rattle.model.specs.Interface.{system, system_in, plain_read}
+use Rattle.model.specs.Interface.{system, system_in, group_index, plain_read}
 use Rattle.model.specs.Attributes.{Attribute, attr, low, high, group_of, index_of, mapped_item, mapped, system_item, item, item_in, item_of, item_read}
 use Rattle.model.specs.Record.{of_vcpu}
 use Rattle.model.specs.declared.View.{View}
@@ -21,12 +22,12 @@ use Rattle.model.specs.declared.Flags.{Flags}
 use Rattle.model.specs.declared.Flags.TheVariants.{Group, SetEnable, SetPending, SetActive, Lines}
 use Rattle.model.specs.declared.Register.{Register}
 use Rattle.model.specs.declared.Register.TheVariants.{Fixed, Control, Typer, Iidr, Status, Bits, Priority, Config, Route, FrameTyper, FrameAffinity}
-use Rattle.model.specs.declared.Decoded.TheVariants as decoded
+use Rattle.model.specs.declared.InterruptGroup.TheVariants.{Group0, Group1}
 use Rattle.model.specs.declared.Plain.{Plain}
 use Rattle.model.specs.declared.Plain.TheVariants.{Pmr, Bpr, Apr, Ctlr, Sre, Igrpen}
 use Rattle.model.specs.declared.SystemRegister.TheVariants.{Both}
 use Rattle.model.specs.declared.Item.{Item}
-use Rattle.model.specs.declared.Item.TheVariants.{Mapped, System, Nameless}
+use Rattle.model.specs.declared.Item.TheVariants.{Mapped, System}
 use Rattle.model.proofs.Bits.{bit-gather, word-is}
 use Rattle.model.proofs.Soundness.{Ready, open-vcpu}
 use Rattle.model.proofs.Decode.{decode-group, decode-set-enable, decode-set-pending, decode-set-active, decode-priority, decode-config, decode-route, decode-control, decode-status, decode-frame-priority, decode-frame-status, decode-frame-group, decode-frame-set-enable, decode-frame-set-pending, decode-frame-set-active}
@@ -139,26 +140,26 @@ flags_of actives = SetActive
 abbrev pub plain_of : Stored → Plain
 plain_of pmr = Pmr
 plain_of ctlr = Ctlr
-plain_of bpr0 = Bpr 0
-plain_of bpr1 = Bpr 1
-plain_of ap0r = Apr 0
-plain_of ap1r = Apr 1
-plain_of igrpen0 = Igrpen 0
-plain_of igrpen1 = Igrpen 1
+plain_of bpr0 = Bpr Group0
+plain_of bpr1 = Bpr Group1
+plain_of ap0r = Apr Group0
+plain_of ap1r = Apr Group1
+plain_of igrpen0 = Igrpen Group0
+plain_of igrpen1 = Igrpen Group1
 
-abbrev pub named_by : {s : List ℕ} {a : Attribute} → Listed s a → Item
-named_by control = Mapped Distributor Control 0
-named_by status = Mapped Distributor Status 0
-named_by (spi-flags w k q) = Mapped Distributor (Bits (flags_of k)) w
-named_by (spi-lines w q) = Mapped Distributor (Bits Lines) w
-named_by (spi-priority w j q l) = Mapped Distributor Priority (8 * w + j)
-named_by (spi-config w j q l) = Mapped Distributor Config (2 * w + j)
-named_by (spi-route id l h) = Mapped Distributor Route (2 * (id - 32))
-named_by (vcpu-status v l) = Mapped (Frame v) Status 0
-named_by (vcpu-flags v k l) = Mapped (Frame v) (Bits (flags_of k)) 0
-named_by (vcpu-lines v l) = Mapped (Frame v) (Bits Lines) 0
-named_by (vcpu-priority v j l m) = Mapped (Frame v) Priority j
-named_by (vcpu-system v p l) = System (Frame v) (plain_of p)
+abbrev pub named_by : {s : List ℕ} {a : Attribute} → Listed s a → Option Item
+named_by control = Some (Mapped Distributor Control 0)
+named_by status = Some (Mapped Distributor Status 0)
+named_by (spi-flags w k q) = Some (Mapped Distributor (Bits (flags_of k)) w)
+named_by (spi-lines w q) = Some (Mapped Distributor (Bits Lines) w)
+named_by (spi-priority w j q l) = Some (Mapped Distributor Priority (8 * w + j))
+named_by (spi-config w j q l) = Some (Mapped Distributor Config (2 * w + j))
+named_by (spi-route id l h) = Some (Mapped Distributor Route (2 * (id - 32)))
+named_by (vcpu-status v l) = Some (Mapped (Frame v) Status 0)
+named_by (vcpu-flags v k l) = Some (Mapped (Frame v) (Bits (flags_of k)) 0)
+named_by (vcpu-lines v l) = Some (Mapped (Frame v) (Bits Lines) 0)
+named_by (vcpu-priority v j l m) = Some (Mapped (Frame v) Priority j)
+named_by (vcpu-system v p l) = Some (System (Frame v) (plain_of p))
 
 -- the index of a vCPU's affinity is its index
 lowest-is : (f : ℕ → Bool) (n i v : ℕ) → i ≤ v → v < i + n → f v ≡ true → ((u : ℕ) → u < v → f u ≡ false) → lowest f n i ≡ v
@@ -184,20 +185,20 @@ module _ (s : List ℕ) (h : Ready s) where
       (omega arith, ap (λ (x : ℕ). x % 2 ^ 32) d ∙ mod-eq_of_lt (fits_word s h (affinity_at v) (omega (arith, h.few))))
 
   -- attributes of the distributor, of a frame, of a CPU interface
-  in-distributor : (off k : ℕ) (r : Register) → off < 2 ^ 32 → off % 4 ≡ 0 → decode (rows Distributor) off ≡ decoded.Listed r k → item_of (attr 1 off) s ≡ Mapped Distributor r k
+  in-distributor : (off k : ℕ) (r : Register) → off < 2 ^ 32 → off % 4 ≡ 0 → decode (rows Distributor) off ≡ Some (r, k) → item_of (attr 1 off) s ≡ Some (Mapped Distributor r k)
   unfolding item_of item_in group_of item mapped mapped_item
   in-distributor off k r l m e =
       let z : low off ≡ off = omega arith in
       rw (z, m, e)
 
-  in_frame : (v off k : ℕ) (r : Register) → v < vcpus s → off < 2 ^ 32 → off % 4 ≡ 0 → decode (rows (Frame v)) off ≡ decoded.Listed r k
-      → item_of (attr 5 (of_vcpu s v off)) s ≡ Mapped (Frame v) r k
+  in_frame : (v off k : ℕ) (r : Register) → v < vcpus s → off < 2 ^ 32 → off % 4 ≡ 0 → decode (rows (Frame v)) off ≡ Some (r, k)
+      → item_of (attr 5 (of_vcpu s v off)) s ≡ Some (Mapped (Frame v) r k)
   unfolding item_of item_in group_of item mapped mapped_item
   in_frame v off k r q l m e =
       let z = vcpu-parts v off q l in
       rw (z.0, z.1, index-of v q, m, e)
 
-  in-interface : (v : ℕ) (p : Stored) → v < vcpus s → item_of (attr 6 (of_vcpu s v (encoding_of p))) s ≡ System (Frame v) (plain_of p)
+  in-interface : (v : ℕ) (p : Stored) → v < vcpus s → item_of (attr 6 (of_vcpu s v (encoding_of p))) s ≡ Some (System (Frame v) (plain_of p))
   unfolding item_of item_in group_of item system_item
   in-interface v p q =
       let z = vcpu-parts v (encoding_of p) q (small-encoding p) in
@@ -222,14 +223,14 @@ module _ (s : List ℕ) (h : Ready s) where
       few : w < 32
       few = omega (arith, q.high, h.counted.most)
 
-      of-kept : (o : Kept) → item_of (attr 1 (offset_of o + 4 * w)) s ≡ Mapped Distributor (Bits (flags_of o)) w
+      of-kept : (o : Kept) → item_of (attr 1 (offset_of o + 4 * w)) s ≡ Some (Mapped Distributor (Bits (flags_of o)) w)
       of-kept groups = let m = few in in-distributor (0x80 + 4 * w) w (Bits Group) (omega arith) (omega arith) (decode-group w few)
       of-kept enables = let m = few in in-distributor (0x100 + 4 * w) w (Bits SetEnable) (omega arith) (omega arith) (decode-set-enable w few)
       of-kept latches = let m = few in in-distributor (0x200 + 4 * w) w (Bits SetPending) (omega arith) (omega arith) (decode-set-pending w few)
       of-kept actives = let m = few in in-distributor (0x300 + 4 * w) w (Bits SetActive) (omega arith) (omega arith) (decode-set-active w few)
   names-item (spi-lines w q) = in_lines w q.low (omega (arith, q.high, h.counted.most))
     where
-      in_lines : (u : ℕ) → 1 ≤ u → u < 32 → item_of (attr 7 (32 * u)) s ≡ Mapped Distributor (Bits Lines) u
+      in_lines : (u : ℕ) → 1 ≤ u → u < 32 → item_of (attr 7 (32 * u)) s ≡ Some (Mapped Distributor (Bits Lines) u)
       in_lines u a b = unfold item_of item_in group_of item in
           (let z : low (32 * u) ≡ 32 * u = omega arith in
           let d : 32 * u / 32 ≡ u = omega arith in
@@ -248,14 +249,14 @@ module _ (s : List ℕ) (h : Ready s) where
   names-item (vcpu-status v l) = in_frame v 0x10 0 Status l (omega arith) refl (decode-frame-status v)
   names-item (vcpu-flags v k l) = of-kept k
     where
-      of-kept : (o : Kept) → item_of (attr 5 (of_vcpu s v (0x10000 + offset_of o))) s ≡ Mapped (Frame v) (Bits (flags_of o)) 0
+      of-kept : (o : Kept) → item_of (attr 5 (of_vcpu s v (0x10000 + offset_of o))) s ≡ Some (Mapped (Frame v) (Bits (flags_of o)) 0)
       of-kept groups = in_frame v 0x10080 0 (Bits Group) l (omega arith) refl (decode-frame-group v)
       of-kept enables = in_frame v 0x10100 0 (Bits SetEnable) l (omega arith) refl (decode-frame-set-enable v)
       of-kept latches = in_frame v 0x10200 0 (Bits SetPending) l (omega arith) refl (decode-frame-set-pending v)
       of-kept actives = in_frame v 0x10300 0 (Bits SetActive) l (omega arith) refl (decode-frame-set-active v)
   names-item (vcpu-lines v l) = in_lines
     where
-      in_lines : item_of (attr 7 (of_vcpu s v 0)) s ≡ Mapped (Frame v) (Bits Lines) 0
+      in_lines : item_of (attr 7 (of_vcpu s v 0)) s ≡ Some (Mapped (Frame v) (Bits Lines) 0)
       in_lines = unfold item_of item_in group_of item in
           (let z = vcpu-parts v 0 l (omega arith) in
           rw (z.0, z.1, index-of v l))
@@ -416,16 +417,16 @@ register_place x FrameAffinity k = 0
 
 unfoldable pub plain_place : ℕ → Plain → ℕ
 plain_place v Pmr = pmr_at v
-plain_place v (Bpr g) = bpr_at v g
-plain_place v (Apr g) = apr_at v g
+plain_place v (Bpr g) = bpr_at v (group_index g)
+plain_place v (Apr g) = apr_at v (group_index g)
 plain_place v Ctlr = ctlr_at v
 plain_place v Sre = 0
-plain_place v (Igrpen g) = igrpen_at v g
+plain_place v (Igrpen g) = igrpen_at v (group_index g)
 
-unfoldable pub item_place : Item → ℕ
-item_place (Mapped x r k) = register_place x r k
-item_place (System x p) = plain_place (seen_by x) p
-item_place Nameless = 0
+unfoldable pub item_place : Option Item → ℕ
+item_place (Some (Mapped x r k)) = register_place x r k
+item_place (Some (System x p)) = plain_place (seen_by x) p
+item_place None = 0
 
 module _ (s : List ℕ) (h : Ready s) where
   item-place : {a : Attribute} (l : Listed s a) → item_place (named_by l) ≡ place_of l

@@ -1,4 +1,5 @@
 -- A put reads back exactly what some device of the target's set-up reads there, as the page says of restore.
+use Rattle.std.specs.Prelude.{Option}
 use Prim.Native.Nat.{ℕ, ◌+◌, ◌*◌, ◌-◌, ◌/◌, ◌%◌, ◌≤◌, ◌<◌, min}
 use mathlib.Core.Path.{◌≡◌, refl, sym, ap, ◌∙◌}
 use mathlib.Core.Bool.{true}
@@ -14,6 +15,7 @@ use Rattle.model.specs.Record.{listed, attribute_of, entry_read, readable}
 use Rattle.model.specs.Demands.{Stopped, Fresh, Alike}
 use Rattle.model.specs.declared.By.TheVariants as by
 use Rattle.model.specs.declared.View.TheVariants.{Distributor, Frame}
+use Rattle.model.specs.declared.InterruptGroup.TheVariants.{Group0, Group1}
 use Rattle.model.specs.declared.Item.{Item}
 use Rattle.model.proofs.Tests.{both}
 use Rattle.model.proofs.Soundness.{stopped-ready, Ready, ready-is-sound, Resting, stopped-resting, resting-stopped}
@@ -76,12 +78,12 @@ module _ (s : List ℕ) (h : Ready s) where
   put-leaves (vcpu-priority v j l m) x = put-private-priority v j x l m
   put-leaves (vcpu-system v pmr l) x = stores-pmr s h by.Attribute v x l
   put-leaves (vcpu-system v ctlr l) x = stores-ctlr s h by.Attribute v x l
-  put-leaves (vcpu-system v bpr0 l) x = stores-bpr s h by.Attribute v 0 x l (omega arith)
-  put-leaves (vcpu-system v bpr1 l) x = stores-bpr s h by.Attribute v 1 x l (omega arith)
-  put-leaves (vcpu-system v ap0r l) x = stores-apr s h by.Attribute v 0 x l (omega arith)
-  put-leaves (vcpu-system v ap1r l) x = stores-apr s h by.Attribute v 1 x l (omega arith)
-  put-leaves (vcpu-system v igrpen0 l) x = stores-igrpen s h by.Attribute v 0 x l (omega arith)
-  put-leaves (vcpu-system v igrpen1 l) x = stores-igrpen s h by.Attribute v 1 x l (omega arith)
+  put-leaves (vcpu-system v bpr0 l) x = stores-bpr s h by.Attribute v Group0 x l
+  put-leaves (vcpu-system v bpr1 l) x = stores-bpr s h by.Attribute v Group1 x l
+  put-leaves (vcpu-system v ap0r l) x = stores-apr s h by.Attribute v Group0 x l
+  put-leaves (vcpu-system v ap1r l) x = stores-apr s h by.Attribute v Group1 x l
+  put-leaves (vcpu-system v igrpen0 l) x = stores-igrpen s h by.Attribute v Group0 x l
+  put-leaves (vcpu-system v igrpen1 l) x = stores-igrpen s h by.Attribute v Group1 x l
 
 -- ---- and leaves the core of a stopped device of the same set-up
 
@@ -105,7 +107,7 @@ put-like t s h {a} l v =
     let rs = h.resting.is_ready in
     let there = (carried t s h.alike l).there in
     let p = put-leaves s rs there v in
-    let put : item_write s (item_of a s) v ≡ set s (place_of there) p.stored = ap (λ (j : Item). item_write s j v) (names-item s rs there) ∙ p.state in
+    let put : item_write s (item_of a s) v ≡ set s (place_of there) p.stored = ap (λ (j : Option Item). item_write s j v) (names-item s rs there) ∙ p.state in
     rw put (record {
       resting = store-resting s (place_of there) p.stored rs.few p.may h.resting p.idle;
       alike = alike_then t s _ h.alike (store_same s (place_of there) p.stored rs.few p.may).alike;

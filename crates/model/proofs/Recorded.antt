@@ -1,4 +1,5 @@
 -- Demand 3 through save and restore: the record of a stopped device, restored into a fresh one of the same set-up, makes the two equal.
+use Rattle.std.specs.Prelude.{Ok, Option}
 use Prim.Native.Nat.{ℕ, zero, suc, ◌+◌, ◌^◌, ◌≤◌, ◌<◌}
 use mathlib.Core.Path.{◌≡◌, refl, sym, ap, ap₂, ◌∙◌}
 use mathlib.Core.Bool.{true}
@@ -13,7 +14,6 @@ use Rattle.model.specs.Words.{each}
 use Rattle.model.specs.Layout.{word, vcpus, affinity, affinity_at}
 use Rattle.model.specs.Attributes.{Attribute, item_of, item_read, item_write}
 use Rattle.model.specs.Record.{of_vcpu_block, listed, Entry, header, attribute_of, entries, entry_read, entry_bytes, record_of, readable, entry_put, done, taking, load, restored, faults, loaded_state, saved}
-use Rattle.model.specs.declared.Refusal.TheVariants.{None}
 use Rattle.model.specs.Calls.{save, restore, call, refusal, front_of, handed_back, trace, describe}
 use Rattle.model.specs.declared.Item.{Item}
 use Rattle.model.specs.Demands.{Stopped, Fresh, Alike, ByRecord}
@@ -178,7 +178,7 @@ module _ (from to : List ℕ) (hf : Stopped from) (ht : Fresh to) (same : Alike 
           can = rw value (value-readable l)
 
           puts : entry_put s (attribute_of c) (entry_read from (attribute_of c)) ≡ u
-          puts = rw value (unfold entry_put in (ap (λ (i : Item). item_write s i (shown (shape_of l) (word from (place_of l)))) (names-here s b l) ∙ item-put from to hf ht same s b l))
+          puts = rw value (unfold entry_put in (ap (λ (i : Option Item). item_write s i (shown (shape_of l) (word from (place_of l)))) (names-here s b l) ∙ item-put from to hf ht same s b l))
 
           r : (t : List ℕ) × Loads es u t
           r = ih u g.1 (between_put from to s (place_of l) (place_inside from rf l) (place-core from rf l) b)
@@ -201,7 +201,7 @@ module _ (from to : List ℕ) (hf : Stopped from) (ht : Fresh to) (same : Alike 
 
   -- ---- restore of the record, as a call
 
-  restore-grants : refusal (restore (record_of from)) to ≡ None
+  restore-grants : refusal (restore (record_of from)) to ≡ Ok tt
   unfolding describe faults
   restore-grants =
       tests-next (restore (record_of from)) to ht.is_sound
@@ -218,7 +218,7 @@ module _ (from to : List ℕ) (hf : Stopped from) (ht : Fresh to) (same : Alike 
 -- ---- save, as a call
 
 module _ (from buf : List ℕ) (hf : Stopped from) (room : length (record_of from) ≤ length buf) where
-  save-grants : refusal (save buf) from ≡ None
+  save-grants : refusal (save buf) from ≡ Ok tt
   unfolding describe
   save-grants = tests-next (save buf) from hf.is_sound ∙ none_of _ (hf.is_stopped, (le-leb (length (record_of from)) (length buf) room, tt))
 

@@ -1,4 +1,5 @@
 -- Demand 3 by attributes: putting the listed attributes of a stopped device into a fresh one of the same set-up makes the two equal and for ever after alike.
+use Rattle.std.specs.Prelude.{Ok}
 use Prim.Native.Nat.{ℕ, ◌+◌, ◌*◌, ◌≤◌, ◌<◌}
 use mathlib.Core.Path.{◌≡◌, refl, sym, ap, ◌∙◌, subst}
 use mathlib.Core.Bool.{true, false}
@@ -15,7 +16,6 @@ use Rattle.model.specs.Roles.{role_of, is_derived, with_derived}
 use Rattle.model.specs.Sound.{sound, stopped, fresh, fits, fresh_bits, fresh_block_bits}
 use Rattle.model.specs.Attributes.{Attribute, attr, item, item_read, item_write, group_of}
 use Rattle.model.specs.Calls.{Call, get_attribute, set_attribute, call, register_checks, set_checks, refusal, set_state, after, trace, describe}
-use Rattle.model.specs.declared.Refusal.TheVariants.{None}
 use Rattle.model.specs.Demands.{Stopped, Fresh, Alike, Put, puts, Allowed, put, get, refused, Restoring, one, Whole, ByAttributes}
 use Rattle.model.specs.declared.RegisterGroup.{RegisterGroup}
 use Rattle.model.specs.declared.AttributeGroup.TheVariants.{Registers}
@@ -156,7 +156,7 @@ module _ (from to : List ℕ) (hf : Stopped from) (ht : Fresh to) (same : Alike 
       at_rest : stopped s ≡ true
       at_rest = resting-stopped s (mixed-resting from to rf rt same s b (stopped-resting from hf) (stopped-resting to (fresh-stopped to ht)))
 
-      grants : refusal c s ≡ None
+      grants : refusal c s ≡ Ok tt
       grants =
           tests-next c s m.is_sound ∙ rw eg (none_of (register_checks q n s ++ _)
           (told.number, (same_known from s alike q n ∙ told.affinity, (at_rest, (rw i (named-known from rf l), (rw (i, is-value) (value_taken from rf l), tt))))))

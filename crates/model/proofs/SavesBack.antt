@@ -1,6 +1,7 @@
 -- A record that restore takes is the record of the device that it leaves: a device has exactly one record.
 -- The premise `Bytes` says that each number of the record is below 256. In the code these are u8, so it always holds. The definitions read numbers of any size, and
 -- need it: 300 with 1 after it is read as 300 (300 - 128 + 128 * 1), whose shortest form is 172, 2.
+use Rattle.std.specs.Prelude.{Ok}
 use Prim.Native.Nat.{ℕ, zero, suc, ◌+◌, ◌*◌, ◌%◌, ◌^◌, ◌≤◌, ◌<◌}
 use mathlib.Core.Path.{◌≡◌, refl, sym, ap, ap₂, ◌∙◌, subst}
 use mathlib.Core.Bool.{Bool, true, false, cond, ◌&&◌, true≢false}
@@ -18,7 +19,6 @@ use Rattle.model.specs.Layout.{word, count, vcpus, block, affinity}
 use Rattle.model.specs.Attributes.{Attribute, attr, item_of, item_write}
 use Rattle.model.specs.Record.{encode, Number, decoded, broken, decode_number, spi_words, spis, of_vcpu, of_spi_word, of_route, of_vcpu_block, listed, Entry, header, attribute_of, entries, entry_read, entry_bytes, record_of, readable, entry_put, Loaded, done, fault, taking, load, restored, faults, loaded_state}
 use Rattle.model.specs.declared.Errno.TheVariants.{Einval}
-use Rattle.model.specs.declared.Refusal.TheVariants.{None}
 use Rattle.model.specs.Demands.{Stopped, Fresh, Alike}
 use Rattle.model.specs.Calls.{save, restore, call, describe, refusal, handed_back}
 use Rattle.model.proofs.Numbers.{Bytes, bytes_rest, bytes-join, decode-only, encode-bytes}
@@ -305,7 +305,7 @@ taken : (t bytes : List ℕ) → (call (restore bytes) t).answer ≡ pos 0 → T
 unfolding describe faults loaded_state
 taken t bytes a = ⊎_elim granted (λ r. let z : ◌≡◌ {A = ℕ} 0 1 = cc (refused-negative (restore bytes) t r.0 r.1) in absurd (omega arith)) (refused-or-granted (restore bytes) t)
   where
-    granted : refusal (restore bytes) t ≡ None → Taken t bytes
+    granted : refusal (restore bytes) t ≡ Ok tt → Taken t bytes
     granted g = let p = unrefused (restore bytes) t g in step (restored t bytes) refl (record { is_sound = p.0; is_fresh = p.1.1.0 }) p.1.1.1
       where
         step : (l : Loaded) → restored t bytes ≡ l → Fresh t → Passed (faults l) → Taken t bytes

@@ -23,7 +23,6 @@ use Rattle.model.proofs.Tests.{both}
 use Rattle.model.proofs.Soundness.{Sound, open-sound, Ready, ready, stopped-mark}
 use Rattle.model.proofs.Fresh.{made-sound}
 use Rattle.model.proofs.Refused.{Passed, tests-next, none_of, is-granted}
-use Rattle.model.proofs.Decode.{system-group}
 use Rattle.model.proofs.Writes.{line-sound}
 use Rattle.model.proofs.Kept.{in-phase, not-marked, counted-sound, added-sound, running-sound, initialise-sound, make-sound, kept}
 use Rattle.model.proofs.Mapped.{guest-write-sound, mapped-sound, lines-sound}
@@ -37,7 +36,7 @@ item-sound : (s : List ℕ) → Ready s → (q : RegisterGroup) (a x : ℕ) → 
 unfolding affinity_known item seen_by
 item-sound s h Distributor a x n k = mapped-sound s h view.Distributor (low a) x h.some
 item-sound s h Redistributor a x n k = mapped-sound s h (view.Frame (index_of s (high a))) (low a) x (ltb-true (index_of s (high a)) (vcpus s) k)
-item-sound s h Interface a x n k = system-item-sound s h (index_of s (high a)) (ltb-true (index_of s (high a)) (vcpus s) k) (system (low a)) x (system-group (low a))
+item-sound s h Interface a x n k = system-item-sound s h (index_of s (high a)) (ltb-true (index_of s (high a)) (vcpus s) k) (system (low a)) x
 item-sound s h Lines a x n k = lines-sound s h a x n k
 
 set-sound : (g : AttributeGroup) (a x : ℕ) (s : List ℕ) → sound s ≡ true → Passed (set_checks g a x s) → Sound (set_state g a x s)
@@ -69,8 +68,8 @@ core-kept (write_distributor v off size x) s h p = let r = ready s h (phase-mark
 core-kept (read_frame v f off size) s h p = open-sound s h
 core-kept (write_frame v f off size x) s h p =
     guest-write-sound s (ready s h (phase-mark Changing s p.0)) (view.Frame f) off size x (ltb-true f (vcpus s) p.1.1.0)
-core-kept (read_system v e) s h p = read-state-sound s (ready s h (phase-mark (read_phase (system e)) s p.0)) v (ltb-true v (vcpus s) p.1.0) (system e) (system-group e)
-core-kept (write_system v e x) s h p = write-state-sound s (ready s h (phase-mark Changing s p.0)) v (ltb-true v (vcpus s) p.1.0) (system e) x (system-group e)
+core-kept (read_system v e) s h p = read-state-sound s (ready s h (phase-mark (read_phase (system e)) s p.0)) v (ltb-true v (vcpus s) p.1.0) (system e)
+core-kept (write_system v e x) s h p = write-state-sound s (ready s h (phase-mark Changing s p.0)) v (ltb-true v (vcpus s) p.1.0) (system e) x
 core-kept (get_attribute g a) s h p = open-sound s h
 core-kept (set_attribute g a x) s h p = set-sound (group_of g) a x s h p
 core-kept (save buf) s h p = open-sound s h

@@ -13,13 +13,14 @@ use Rattle.model.specs.Words.{bit, within, with_bit, all_below}
 use Rattle.model.specs.Layout.{word, count, vcpus, block, pmr_field, pmr_at, ctlr_field, ctlr_at, bpr_field, apr_field, igrpen_field, bpr_at, apr_at, igrpen_at, latch_field, active_field}
 use Rattle.model.specs.Interrupts.{is_private, is_spi, exists, set_flag}
 use Rattle.model.specs.Sound.{fits, block_bits}
-use Rattle.model.specs.Interface.{plain_group, read_group, write_group, group_in, plain_write, rank, nothing, rank_id, best, running_level, gives, offered, level_of, set_level, taken, acknowledged, eoi_mode, dropped, ended, deactivated, sgi_id, reaches, sgi_sent, id_of, system_read_next, system_write}
+use Rattle.model.specs.Interface.{group_index, plain_write, rank, nothing, rank_id, best, running_level, gives, offered, level_of, set_level, taken, acknowledged, eoi_mode, dropped, ended, deactivated, sgi_id, reaches, sgi_sent, id_of, system_read_next, system_write}
 use Rattle.model.specs.Registers.{seen_by}
 use Rattle.model.specs.Attributes.{system_item, item_write}
 use Rattle.model.specs.Calls.{system_read_state, system_write_state}
 use Rattle.model.specs.declared.By.{By}
 use Rattle.model.specs.declared.By.TheVariants.{Guest, Attribute}
 use Rattle.model.specs.declared.View.TheVariants.{Frame}
+use Rattle.model.specs.declared.InterruptGroup.{InterruptGroup}
 use Rattle.model.specs.declared.Plain.{Plain}
 use Rattle.model.specs.declared.Plain.TheVariants.{Pmr, Bpr, Apr, Ctlr, Sre, Igrpen}
 use Rattle.model.specs.declared.Readable.{Readable}
@@ -33,7 +34,7 @@ use Rattle.model.proofs.Bits.{gather-lt}
 use Rattle.model.proofs.Within.{masked-fits}
 use Rattle.model.proofs.Soundness.{Sound, Ready, ready-is-sound}
 use Rattle.model.proofs.Best.{best-found, rank-id, rank_below}
-use Rattle.model.proofs.Fields.{within-spi}
+use Rattle.model.proofs.Fields.{within-spi, group_below}
 use Rattle.model.proofs.Stores.{Free}
 use Rattle.model.proofs.Writes.{low_fits, Leaves, Present, own, shared, leaves-sound, leaves-ready, leaves-number, leaves-present, stores-block, stores-no-line, latched}
 
@@ -61,21 +62,25 @@ module _ (s : List ℕ) (h : Ready s) where
   stores-grouped v j n g w l m e a b k =
       stores-block s h v (j + g) w l (omega arith) b (low_fits n w (get_or block_bits (j + g) 0) k (below_at (λ i. all_below (bit (get_or block_bits (j + i) 0)) n) 2 e g m))
 
-  pub stores-bpr : (by : By) (v g x : ℕ) → v < vcpus s → g < 2 → Leaves s (bpr_at v g) (plain_write by s v (Bpr g) x)
+  pub stores-bpr : (by : By) (v : ℕ) (g : InterruptGroup) (x : ℕ) → v < vcpus s → Leaves s (bpr_at v (group_index g)) (plain_write by s v (Bpr g) x)
   unfolding plain_write
-  stores-bpr by v g x l m = stores-grouped v (bpr_field 0) 3 g _ l m (unfold all_below bit in refl) (omega arith) (omega arith) (omega arith)
+  stores-bpr by v g x l =
+      let m = group_below g in
+      stores-grouped v (bpr_field 0) 3 (group_index g) _ l m (unfold all_below bit in refl) (omega arith) (omega arith) (omega arith)
 
   -- an AP word has any 32 bits
   stores-active-priorities : (v g w : ℕ) → v < vcpus s → g < 2 → w < 2 ^ 32 → Leaves s (apr_at v g) (set s (apr_at v g) w)
   stores-active-priorities v g w l m k = stores-grouped v (apr_field 0) 32 g w l m (unfold all_below bit in refl) (omega arith) (omega arith) (omega arith)
 
-  pub stores-apr : (by : By) (v g x : ℕ) → v < vcpus s → g < 2 → Leaves s (apr_at v g) (plain_write by s v (Apr g) x)
+  pub stores-apr : (by : By) (v : ℕ) (g : InterruptGroup) (x : ℕ) → v < vcpus s → Leaves s (apr_at v (group_index g)) (plain_write by s v (Apr g) x)
   unfolding plain_write
-  stores-apr by v g x l m = stores-active-priorities v g (x % 2 ^ 32) l m (omega arith)
+  stores-apr by v g x l = stores-active-priorities v (group_index g) (x % 2 ^ 32) l (group_below g) (omega arith)
 
-  pub stores-igrpen : (by : By) (v g x : ℕ) → v < vcpus s → g < 2 → Leaves s (igrpen_at v g) (plain_write by s v (Igrpen g) x)
+  pub stores-igrpen : (by : By) (v : ℕ) (g : InterruptGroup) (x : ℕ) → v < vcpus s → Leaves s (igrpen_at v (group_index g)) (plain_write by s v (Igrpen g) x)
   unfolding plain_write
-  stores-igrpen by v g x l m = stores-grouped v (igrpen_field 0) 1 g _ l m (unfold all_below bit in refl) (omega arith) (omega arith) (omega arith)
+  stores-igrpen by v g x l =
+      let m = group_below g in
+      stores-grouped v (igrpen_field 0) 1 (group_index g) _ l m (unfold all_below bit in refl) (omega arith) (omega arith) (omega arith)
 
   stores-level : (t : Bool) (v g level : ℕ) → v < vcpus s → g < 2 → Leaves s (apr_at v g) (set_level t v g level s)
   unfolding set_level with_bit
@@ -93,13 +98,13 @@ module _ (s : List ℕ) (h : Ready s) where
 module _ (s : List ℕ) (h : Ready s) (v : ℕ) (l : v < vcpus s) where
   -- ---- writing a plain register
 
-  plain-sound : (by : By) (p : Plain) (x : ℕ) → plain_group p < 2 → Sound (plain_write by s v p x)
-  plain-sound by Pmr x m = leaves-sound s h (stores-pmr s h by v x l)
-  plain-sound by (Bpr g) x m = leaves-sound s h (stores-bpr s h by v g x l m)
-  plain-sound by (Apr g) x m = leaves-sound s h (stores-apr s h by v g x l m)
-  plain-sound by Ctlr x m = leaves-sound s h (stores-ctlr s h by v x l)
-  plain-sound by Sre x m = unfold plain_write in (ready-is-sound s h)
-  plain-sound by (Igrpen g) x m = leaves-sound s h (stores-igrpen s h by v g x l m)
+  plain-sound : (by : By) (p : Plain) (x : ℕ) → Sound (plain_write by s v p x)
+  plain-sound by Pmr x = leaves-sound s h (stores-pmr s h by v x l)
+  plain-sound by (Bpr g) x = leaves-sound s h (stores-bpr s h by v g x l)
+  plain-sound by (Apr g) x = leaves-sound s h (stores-apr s h by v g x l)
+  plain-sound by Ctlr x = leaves-sound s h (stores-ctlr s h by v x l)
+  plain-sound by Sre x = unfold plain_write in (ready-is-sound s h)
+  plain-sound by (Igrpen g) x = leaves-sound s h (stores-igrpen s h by v g x l)
 
   -- ---- acknowledge: made active, its latch cleared, a bit set in APgR
 
@@ -178,38 +183,38 @@ module _ (s : List ℕ) (h : Ready s) (v : ℕ) (l : v < vcpus s) where
 
   -- ---- reading and writing any register
 
-  readable-sound : (r : Readable) → read_group r < 2 → Sound (system_read_next s v r)
+  readable-sound : (r : Readable) → Sound (system_read_next s v r)
   unfolding system_read_next
-  readable-sound (Iar g) m = offered-sound g m
-  readable-sound (Hppir g) m = ready-is-sound s h
-  readable-sound Rpr m = ready-is-sound s h
+  readable-sound (Iar g) = offered-sound (group_index g) (group_below g)
+  readable-sound (Hppir g) = ready-is-sound s h
+  readable-sound Rpr = ready-is-sound s h
 
-  writable-sound : (w : Writable) (x : ℕ) → write_group w < 2 → Sound (system_write s v w x)
+  writable-sound : (w : Writable) (x : ℕ) → Sound (system_write s v w x)
   unfolding system_write
-  writable-sound (Eoir g) x m = ended-sound g (id_of x) m
-  writable-sound Dir x m = deactivated-sound (id_of x)
-  writable-sound Sgi1r x m = sent-sound false x
-  writable-sound Sgi0r x m = sent-sound true x
+  writable-sound (Eoir g) x = ended-sound (group_index g) (id_of x) (group_below g)
+  writable-sound Dir x = deactivated-sound (id_of x)
+  writable-sound Sgi1r x = sent-sound false x
+  writable-sound Sgi0r x = sent-sound true x
 
-  pub read-state-sound : (r : SystemRegister) → group_in r < 2 → Sound (system_read_state r v s)
+  pub read-state-sound : (r : SystemRegister) → Sound (system_read_state r v s)
   unfolding system_read_state
-  read-state-sound (Both p) m = ready-is-sound s h
-  read-state-sound (Read r) m = readable-sound r m
-  read-state-sound (Write w) m = ready-is-sound s h
-  read-state-sound Unnamed m = ready-is-sound s h
+  read-state-sound (Both p) = ready-is-sound s h
+  read-state-sound (Read r) = readable-sound r
+  read-state-sound (Write w) = ready-is-sound s h
+  read-state-sound Unnamed = ready-is-sound s h
 
-  pub write-state-sound : (r : SystemRegister) (x : ℕ) → group_in r < 2 → Sound (system_write_state r v x s)
+  pub write-state-sound : (r : SystemRegister) (x : ℕ) → Sound (system_write_state r v x s)
   unfolding system_write_state
-  write-state-sound (Both p) x m = plain-sound Guest p x m
-  write-state-sound (Read r) x m = ready-is-sound s h
-  write-state-sound (Write w) x m = writable-sound w x m
-  write-state-sound Unnamed x m = ready-is-sound s h
+  write-state-sound (Both p) x = plain-sound Guest p x
+  write-state-sound (Read r) x = ready-is-sound s h
+  write-state-sound (Write w) x = writable-sound w x
+  write-state-sound Unnamed x = ready-is-sound s h
 
   -- ---- a set of group 6
 
-  pub system-item-sound : (r : SystemRegister) (x : ℕ) → group_in r < 2 → Sound (item_write s (system_item (Frame v) r) x)
+  pub system-item-sound : (r : SystemRegister) (x : ℕ) → Sound (item_write s (system_item (Frame v) r) x)
   unfolding system_item item_write seen_by
-  system-item-sound (Both p) x m = plain-sound Attribute p x m
-  system-item-sound (Read r) x m = ready-is-sound s h
-  system-item-sound (Write w) x m = ready-is-sound s h
-  system-item-sound Unnamed x m = ready-is-sound s h
+  system-item-sound (Both p) x = plain-sound Attribute p x
+  system-item-sound (Read r) x = ready-is-sound s h
+  system-item-sound (Write w) x = ready-is-sound s h
+  system-item-sound Unnamed x = ready-is-sound s h

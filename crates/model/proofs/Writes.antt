@@ -1,4 +1,5 @@
 -- Writing a word of a memory-mapped register, and changing a line, leave a sound, initialised device sound.
+use Rattle.std.specs.Prelude.{Some}
 use Prim.Native.Nat.{ℕ, zero, suc, ◌+◌, ◌*◌, ◌/◌, ◌%◌, ◌^◌, ◌≤◌, ◌<◌}
 use mathlib.Core.Path.{◌≡◌, refl, sym, ap, ◌∙◌}
 use mathlib.Core.Bool.{Bool, true, false, cond, ◌&&◌}
@@ -25,7 +26,6 @@ use Rattle.model.specs.declared.Flags.TheVariants.{Group, SetEnable, ClearEnable
 use Rattle.model.specs.declared.Rule.{Rule}
 use Rattle.model.specs.declared.Register.{Register}
 use Rattle.model.specs.declared.Register.TheVariants.{Fixed, Control, Typer, Iidr, Status, Bits, Priority, Config, Route, FrameTyper, FrameAffinity}
-use Rattle.model.specs.declared.Decoded.TheVariants.{Listed}
 use Rattle.model.proofs.Bits.{gather-lt, bit-gather, bit_below, word-is}
 use Rattle.model.proofs.Tests.{both, below_at}
 use Rattle.model.proofs.Within.{fits-bit, fits_le, bits_fit}
@@ -375,7 +375,7 @@ module _ (s : List ℕ) (h : Ready s) where
   register-sound by x FrameAffinity k value l m d = ready-is-sound s h
 
   -- any word that an offset of the view decodes to
-  pub write-sound : (by : By) (x : View) (off : ℕ) (r : Register) (k value : ℕ) → seen_by x < vcpus s → decode (rows x) off ≡ Listed r k → Sound (write by s x r k value)
+  pub write-sound : (by : By) (x : View) (off : ℕ) (r : Register) (k value : ℕ) → seen_by x < vcpus s → decode (rows x) off ≡ Some (r, k) → Sound (write by s x r k value)
   write-sound by x off r k value l d = register-sound by x r k value l (decode-words x off r k d) (λ e. config-view x off k (rw e at d))
 
   -- ---- changing a line

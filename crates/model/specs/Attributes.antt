@@ -1,9 +1,9 @@
 -- The attribute calls: groups 1 and 3 to 7.
-use Rattle.std.specs.Prelude.{ℕ, ◌/◌, ◌%◌, ◌^◌, Bool, true, false, cond, ◌&&◌, List, eqb, ltb}
+use Rattle.std.specs.Prelude.{ℕ, ◌/◌, ◌%◌, ◌^◌, Bool, true, false, cond, ◌&&◌, List, eqb, ltb, Some, None, Option}
 use Rattle.model.specs.Words.{lowest}
 use Rattle.model.specs.Layout.{vcpus, affinity}
 use Rattle.model.specs.Values.{iidr}
-use Rattle.model.specs.Registers.{decode, rows, read, write, seen_by}
+use Rattle.model.specs.Registers.{Decoded, decode, rows, read, write, seen_by}
 use Rattle.model.specs.Interface.{system, plain_read, plain_write, plain_takes}
 use Rattle.model.specs.declared.By.TheVariants as by
 use Rattle.model.specs.declared.View.{View}
@@ -11,8 +11,6 @@ use Rattle.model.specs.declared.View.TheVariants as view
 use Rattle.model.specs.declared.Flags.TheVariants as flags
 use Rattle.model.specs.declared.Register.{Register}
 use Rattle.model.specs.declared.Register.TheVariants.{Fixed, Control, Typer, Iidr, Status, Bits, Priority, Config, Route, FrameTyper, FrameAffinity}
-use Rattle.model.specs.declared.Decoded.{Decoded}
-use Rattle.model.specs.declared.Decoded.TheVariants.{Listed, Unlisted}
 use Rattle.model.specs.declared.SystemRegister.{SystemRegister}
 use Rattle.model.specs.declared.SystemRegister.TheVariants.{Both, Read, Write, Unnamed}
 use Rattle.model.specs.declared.RegisterGroup.{RegisterGroup}
@@ -20,7 +18,7 @@ use Rattle.model.specs.declared.RegisterGroup.TheVariants.{Distributor, Redistri
 use Rattle.model.specs.declared.AttributeGroup.{AttributeGroup}
 use Rattle.model.specs.declared.AttributeGroup.TheVariants.{Registers, Count, Initialise, Unknown}
 use Rattle.model.specs.declared.Item.{Item}
-use Rattle.model.specs.declared.Item.TheVariants.{Mapped, System, Nameless}
+use Rattle.model.specs.declared.Item.TheVariants.{Mapped, System}
 
 -- ---- groups
 unfoldable pub group_of : ℕ → AttributeGroup
@@ -65,31 +63,31 @@ affinity_known Lines a s = cond (ltb (low a) 32) (is_used s (high a)) true
 
 -- ---- what it names
 
-unfoldable pub mapped_item : View → Decoded → Item
-mapped_item x (Listed r k) = Mapped x r k
-mapped_item x Unlisted = Nameless
+unfoldable pub mapped_item : View → Decoded → Option Item
+mapped_item x (Some (r, k)) = Some (Mapped x r k)
+mapped_item x None = None
 
 -- only the listed aligned words exist
-unfoldable pub mapped : View → ℕ → Item
-mapped x off = cond (eqb (off % 4) 0) (mapped_item x (decode (rows x) off)) Nameless
+unfoldable pub mapped : View → ℕ → Option Item
+mapped x off = cond (eqb (off % 4) 0) (mapped_item x (decode (rows x) off)) None
 
 -- group 6: bits 31-0 are the encoding; each listed one is below 2^16, so bits 31-16 not 0 is unknown. The vCPU is named by the view of its frame
-unfoldable pub system_item : View → SystemRegister → Item
-system_item x (Both p) = System x p
-system_item x (Read r) = Nameless
-system_item x (Write w) = Nameless
-system_item x Unnamed = Nameless
+unfoldable pub system_item : View → SystemRegister → Option Item
+system_item x (Both p) = Some (System x p)
+system_item x (Read r) = None
+system_item x (Write w) = None
+system_item x Unnamed = None
 
-unfoldable pub item : RegisterGroup → ℕ → List ℕ → Item
+unfoldable pub item : RegisterGroup → ℕ → List ℕ → Option Item
 item Distributor a s = mapped view.Distributor (low a)
 item Redistributor a s = mapped (view.Frame (index_of s (high a))) (low a)
 item Interface a s = system_item (view.Frame (index_of s (high a))) (system (low a))
-item Lines a s = cond (ltb (low a) 32) (Mapped (view.Frame (index_of s (high a))) (Bits flags.Lines) 0) (Mapped view.Distributor (Bits flags.Lines) (low a / 32))
+item Lines a s = cond (ltb (low a) 32) (Some (Mapped (view.Frame (index_of s (high a))) (Bits flags.Lines) 0)) (Some (Mapped view.Distributor (Bits flags.Lines) (low a / 32)))
 
-unfoldable pub known : Item → Bool
-known (Mapped x r k) = true
-known (System x p) = true
-known Nameless = false
+unfoldable pub known : Option Item → Bool
+known (Some (Mapped x r k)) = true
+known (Some (System x p)) = true
+known None = false
 
 -- ---- values
 
@@ -108,20 +106,20 @@ register_takes FrameTyper x = true
 register_takes FrameAffinity x = true
 
 -- not above 2^32 - 1 in groups 1, 5, 7, nor an IIDR, CTLR or SRE value that is refused
-unfoldable pub takes : Item → ℕ → Bool
-takes (Mapped x r k) value = ltb value (2 ^ 32) && register_takes r value
-takes (System x p) value = plain_takes p value
-takes Nameless value = true
+unfoldable pub takes : Option Item → ℕ → Bool
+takes (Some (Mapped x r k)) value = ltb value (2 ^ 32) && register_takes r value
+takes (Some (System x p)) value = plain_takes p value
+takes None value = true
 
-unfoldable pub item_read : List ℕ → Item → ℕ
-item_read s (Mapped x r k) = read by.Attribute s x r k
-item_read s (System x p) = plain_read by.Attribute s (seen_by x) p
-item_read s Nameless = 0
+unfoldable pub item_read : List ℕ → Option Item → ℕ
+item_read s (Some (Mapped x r k)) = read by.Attribute s x r k
+item_read s (Some (System x p)) = plain_read by.Attribute s (seen_by x) p
+item_read s None = 0
 
-unfoldable pub item_write : List ℕ → Item → ℕ → List ℕ
-item_write s (Mapped x r k) value = write by.Attribute s x r k value
-item_write s (System x p) value = plain_write by.Attribute s (seen_by x) p value
-item_write s Nameless value = s
+unfoldable pub item_write : List ℕ → Option Item → ℕ → List ℕ
+item_write s (Some (Mapped x r k)) value = write by.Attribute s x r k value
+item_write s (Some (System x p)) value = plain_write by.Attribute s (seen_by x) p value
+item_write s None value = s
 
 -- ---- one attribute of the groups that name registers
 
@@ -132,11 +130,11 @@ pub record Attribute : Type 0 where
 abbrev pub attr : ℕ → ℕ → Attribute
 attr g a = record { group = g; number = a }
 
-unfoldable pub item_in : AttributeGroup → ℕ → List ℕ → Item
+unfoldable pub item_in : AttributeGroup → ℕ → List ℕ → Option Item
 item_in (Registers q) a s = item q a s
-item_in Count a s = Nameless
-item_in Initialise a s = Nameless
-item_in Unknown a s = Nameless
+item_in Count a s = None
+item_in Initialise a s = None
+item_in Unknown a s = None
 
-unfoldable pub item_of : Attribute → List ℕ → Item
+unfoldable pub item_of : Attribute → List ℕ → Option Item
 item_of a s = item_in (group_of a.group) a.number s

@@ -1,21 +1,18 @@
 -- The calls: each described in one place, by its tests in their order and what it answers and leaves where none of them fails.
-use Rattle.std.specs.Prelude.{ℕ, ◌+◌, Bool, true, false, not, cond, ◌&&◌, ◌||◌, List, [], ◌∷◌, ◌++◌, ◌≡◌, eqb, ltb, leb, ℤ, pos, negsuc, length, get_or, set, take, replicate}
+use Rattle.std.specs.Prelude.{ℕ, ◌+◌, Bool, true, false, not, cond, ◌&&◌, ◌||◌, List, [], ◌∷◌, ◌++◌, ◌≡◌, eqb, ltb, leb, ℤ, pos, negsuc, length, get_or, set, take, replicate, Ok, Err}
 use Rattle.model.specs.Values.{edge_bits}
 use Rattle.model.specs.Words.{val}
 use Rattle.model.specs.Roles.{with_derived}
 use Rattle.model.specs.Layout.{state_length, most_vcpus, initialised_at, count_at, vcpus_at, is_initialised, count, vcpus, affinity_at, running_at, running, bpr_at, least_bpr, sgi_edges_at}
 use Rattle.model.specs.Interrupts.{is_ppi, is_spi}
 use Rattle.model.specs.Sound.{sound, stopped, fresh, is_count, is_affinity, unused}
-use Rattle.model.specs.Refusals.{Check, first_failing, number}
+use Rattle.model.specs.Refusals.{Refusal, Check, first_failing, number}
 use Rattle.model.specs.Registers.{guest_read, guest_write}
 use Rattle.model.specs.Lines.{line_changed}
 use Rattle.model.specs.Interface.{system, signal, plain_read, plain_write, system_read, system_read_next, system_read_clear, system_write}
 use Rattle.model.specs.Attributes.{group_of, number_ok, affinity_known, item, known, takes, item_read, item_write}
 use Rattle.model.specs.Record.{record_of, saved, restored, faults, loaded_state}
 use Rattle.model.specs.declared.Errno.TheVariants.{Eperm, Eio, Enxio, Enomem, Efault, Ebusy, Eexist, Enodev, Einval, Enospc}
-use Rattle.model.specs.declared.Refusal.{Refusal}
-use Rattle.model.specs.declared.Refusal.TheVariants.{None, Refuse}
-use Rattle.model.specs.declared.Answer.TheVariants.{Value, Refused}
 use Rattle.model.specs.declared.By.TheVariants as by
 use Rattle.model.specs.declared.View.TheVariants as view
 use Rattle.model.specs.declared.Phase.{Phase}
@@ -256,7 +253,7 @@ filled c s = (describe c s).left
 -- ---- a call made
 
 unfoldable pub refusal : Call → List ℕ → Refusal
-refusal c s = elim (acceptable c s) [ true ↦ first_failing (checks c s) | false ↦ Refuse Efault ]
+refusal c s = elim (acceptable c s) [ true ↦ first_failing (checks c s) | false ↦ Err Efault ]
 
 pub record Outcome : Type 0 where
   pub answer : ℤ
@@ -265,8 +262,8 @@ pub record Outcome : Type 0 where
 
 -- a refused call changes nothing
 unfoldable pub settle : Refusal → Call → List ℕ → Outcome
-settle None c s = record { answer = number (Value (value c s)); state = next c s; buffers = filled c s }
-settle (Refuse e) c s = record { answer = number (Refused e); state = s; buffers = lent_to c s }
+settle (Ok tt) c s = record { answer = number (Ok (value c s)); state = next c s; buffers = filled c s }
+settle (Err e) c s = record { answer = number (Err e); state = s; buffers = lent_to c s }
 
 unfoldable pub call : Call → List ℕ → Outcome
 call c s = settle (refusal c s) c s

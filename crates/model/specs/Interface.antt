@@ -6,6 +6,8 @@ use Rattle.model.specs.Layout.{word, count, vcpus, enables_at, affinity, pmr_at,
 use Rattle.model.specs.Interrupts.{is_private, ids_below, is_spi, exists, group, enabled, active, priority, route, pending, set_flag}
 use Rattle.model.specs.Sound.{fits}
 use Rattle.model.specs.declared.By.{By}
+use Rattle.model.specs.declared.InterruptGroup.{InterruptGroup}
+use Rattle.model.specs.declared.InterruptGroup.TheVariants.{Group0, Group1}
 use Rattle.model.specs.declared.Plain.{Plain}
 use Rattle.model.specs.declared.Plain.TheVariants.{Pmr, Bpr, Apr, Ctlr, Sre, Igrpen}
 use Rattle.model.specs.declared.Readable.{Readable}
@@ -27,24 +29,24 @@ system_row e r = record { encoding = e; register = r }
 abbrev pub system_rows : List SystemRow
 system_rows =
     system_row 0xc230 (Both Pmr)
-    ∷ system_row 0xc643 (Both (Bpr 0))
-    ∷ system_row 0xc644 (Both (Apr 0))
-    ∷ system_row 0xc648 (Both (Apr 1))
-    ∷ system_row 0xc663 (Both (Bpr 1))
+    ∷ system_row 0xc643 (Both (Bpr Group0))
+    ∷ system_row 0xc644 (Both (Apr Group0))
+    ∷ system_row 0xc648 (Both (Apr Group1))
+    ∷ system_row 0xc663 (Both (Bpr Group1))
     ∷ system_row 0xc664 (Both Ctlr)
     ∷ system_row 0xc665 (Both Sre)
-    ∷ system_row 0xc666 (Both (Igrpen 0))
-    ∷ system_row 0xc667 (Both (Igrpen 1))
-    ∷ system_row 0xc640 (Read (Iar 0))
-    ∷ system_row 0xc642 (Read (Hppir 0))
+    ∷ system_row 0xc666 (Both (Igrpen Group0))
+    ∷ system_row 0xc667 (Both (Igrpen Group1))
+    ∷ system_row 0xc640 (Read (Iar Group0))
+    ∷ system_row 0xc642 (Read (Hppir Group0))
     ∷ system_row 0xc65b (Read Rpr)
-    ∷ system_row 0xc660 (Read (Iar 1))
-    ∷ system_row 0xc662 (Read (Hppir 1))
-    ∷ system_row 0xc641 (Write (Eoir 0))
+    ∷ system_row 0xc660 (Read (Iar Group1))
+    ∷ system_row 0xc662 (Read (Hppir Group1))
+    ∷ system_row 0xc641 (Write (Eoir Group0))
     ∷ system_row 0xc659 (Write Dir)
     ∷ system_row 0xc65d (Write Sgi1r)
     ∷ system_row 0xc65f (Write Sgi0r)
-    ∷ system_row 0xc661 (Write (Eoir 1))
+    ∷ system_row 0xc661 (Write (Eoir Group1))
     ∷ []
 
 unfoldable pub system_in : List SystemRow → ℕ → SystemRegister
@@ -54,50 +56,29 @@ system_in (r ∷ rs) e = elim (eqb e r.encoding) [ true ↦ r.register | false �
 unfoldable pub system : ℕ → SystemRegister
 system e = system_in system_rows e
 
--- the interrupt group of a register, 0 where it has none: 0 or 1 for each that an encoding names (proofs/Decode: `system-group`)
-abbrev pub plain_group : Plain → ℕ
-plain_group Pmr = 0
-plain_group (Bpr g) = g
-plain_group (Apr g) = g
-plain_group Ctlr = 0
-plain_group Sre = 0
-plain_group (Igrpen g) = g
-
-abbrev pub read_group : Readable → ℕ
-read_group (Iar g) = g
-read_group (Hppir g) = g
-read_group Rpr = 0
-
-abbrev pub write_group : Writable → ℕ
-write_group (Eoir g) = g
-write_group Dir = 0
-write_group Sgi1r = 0
-write_group Sgi0r = 0
-
-abbrev pub group_in : SystemRegister → ℕ
-group_in (Both p) = plain_group p
-group_in (Read r) = read_group r
-group_in (Write w) = write_group w
-group_in Unnamed = 0
+-- the number of an interrupt group
+abbrev pub group_index : InterruptGroup → ℕ
+group_index Group0 = 0
+group_index Group1 = 1
 
 -- ---- the plain registers, read and written by guest or attribute
 
 unfoldable pub plain_read : By → List ℕ → ℕ → Plain → ℕ
 plain_read by s v Pmr = word s (pmr_at v)
-plain_read by s v (Bpr g) = word s (bpr_at v g)
-plain_read by s v (Apr g) = word s (apr_at v g)
+plain_read by s v (Bpr g) = word s (bpr_at v (group_index g))
+plain_read by s v (Apr g) = word s (apr_at v (group_index g))
 plain_read by s v Ctlr = icc_ctlr_fixed + word s (ctlr_at v)
 plain_read by s v Sre = icc_sre
-plain_read by s v (Igrpen g) = word s (igrpen_at v g)
+plain_read by s v (Igrpen g) = word s (igrpen_at v (group_index g))
 
 -- PMR keeps bits 7-3, BPRs bits 2-0 raised to their least, APs bits 31-0, IGRPEN bit 0; of CTLR bit 1 is written; SRE ignores writes
 unfoldable pub plain_write : By → List ℕ → ℕ → Plain → ℕ → List ℕ
 plain_write by s v Pmr x = set s (pmr_at v) (x % 256 / 8 * 8)
-plain_write by s v (Bpr g) x = set s (bpr_at v g) (max (least_bpr g) (x % 8))
-plain_write by s v (Apr g) x = set s (apr_at v g) (x % 2 ^ 32)
+plain_write by s v (Bpr g) x = set s (bpr_at v (group_index g)) (max (least_bpr (group_index g)) (x % 8))
+plain_write by s v (Apr g) x = set s (apr_at v (group_index g)) (x % 2 ^ 32)
 plain_write by s v Ctlr x = set s (ctlr_at v) (masked icc_ctlr_bits x)
 plain_write by s v Sre x = s
-plain_write by s v (Igrpen g) x = set s (igrpen_at v g) (x % 2)
+plain_write by s v (Igrpen g) x = set s (igrpen_at v (group_index g)) (x % 2)
 
 -- by attribute, a value that CTLR or SRE never reads is refused
 unfoldable pub plain_takes : Plain → ℕ → Bool
@@ -261,23 +242,23 @@ abbrev pub id_of : ℕ → ℕ
 id_of x = x % 2 ^ 24
 
 unfoldable pub system_read : List ℕ → ℕ → Readable → ℕ
-system_read s v (Iar g) = rank_id (offered s v g)
-system_read s v (Hppir g) = highest_pending s v g
+system_read s v (Iar g) = rank_id (offered s v (group_index g))
+system_read s v (Hppir g) = highest_pending s v (group_index g)
 system_read s v Rpr = running_priority s v
 
 unfoldable pub system_read_next : List ℕ → ℕ → Readable → List ℕ
-system_read_next s v (Iar g) = acknowledged s v g (offered s v g)
+system_read_next s v (Iar g) = acknowledged s v (group_index g) (offered s v (group_index g))
 system_read_next s v (Hppir g) = s
 system_read_next s v Rpr = s
 
 -- an acknowledge that finds its active-priority bit set is refused
 unfoldable pub system_read_clear : List ℕ → ℕ → Readable → Bool
-system_read_clear s v (Iar g) = level_clear s v g (offered s v g)
+system_read_clear s v (Iar g) = level_clear s v (group_index g) (offered s v (group_index g))
 system_read_clear s v (Hppir g) = true
 system_read_clear s v Rpr = true
 
 unfoldable pub system_write : List ℕ → ℕ → Writable → ℕ → List ℕ
-system_write s v (Eoir g) x = ended s v g (id_of x)
+system_write s v (Eoir g) x = ended s v (group_index g) (id_of x)
 system_write s v Dir x = deactivated s v (id_of x)
 system_write s v Sgi1r x = sgi_sent (vcpus s) false v x s
 system_write s v Sgi0r x = sgi_sent (vcpus s) true v x s

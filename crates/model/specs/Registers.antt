@@ -1,5 +1,5 @@
 -- Memory-mapped registers: the distributor's and the frames' tables, and what guest and attribute read and write there.
-use Rattle.std.specs.Prelude.{ℕ, ◌+◌, ◌*◌, ◌-◌, ◌/◌, ◌%◌, ◌^◌, Bool, true, false, not, cond, ◌&&◌, ◌||◌, List, [], ◌∷◌, eqb, ltb, leb, set}
+use Rattle.std.specs.Prelude.{ℕ, ◌+◌, ◌*◌, ◌-◌, ◌/◌, ◌%◌, ◌^◌, Bool, true, false, not, cond, ◌&&◌, ◌||◌, List, [], ◌∷◌, eqb, ltb, leb, set, Option, Some, None}
 use Rattle.model.specs.Words.{bit, gather}
 use Rattle.model.specs.Values.{iidr, gicd_ctlr_fixed, gicd_typer_fixed}
 use Rattle.model.specs.Layout.{word, count, vcpus, enables_at, distributor_status_at, frame_status_at, affinity, bank, group_field, enabled_field, latch_field, active_field, line_field, priority_field, edge_field, route_at}
@@ -16,8 +16,6 @@ use Rattle.model.specs.declared.Rule.{Rule}
 use Rattle.model.specs.declared.Rule.TheVariants.{Ignores, Replaces, Sets, Clears}
 use Rattle.model.specs.declared.Register.{Register}
 use Rattle.model.specs.declared.Register.TheVariants.{Fixed, Control, Typer, Iidr, Status, Bits, Priority, Config, Route, FrameTyper, FrameAffinity}
-use Rattle.model.specs.declared.Decoded.{Decoded}
-use Rattle.model.specs.declared.Decoded.TheVariants.{Listed, Unlisted}
 
 -- ---- the tables: from the first word's offset to the last one's
 
@@ -72,10 +70,14 @@ frame_rows =
 unfoldable pub in_row : Row → ℕ → Bool
 in_row r off = leb r.first off && ltb off (r.last + 4)
 
+-- what an offset decodes to: a register and the number of its word, or nothing
+abbrev pub Decoded : Type 0
+Decoded = Option (Register × ℕ)
+
 -- the register at an offset, and the number of the word there, counted from the row's first
 unfoldable pub decode : List Row → ℕ → Decoded
-decode [] off = Unlisted
-decode (r ∷ rs) off = elim (in_row r off) [ true ↦ Listed r.register ((off - r.first) / 4) | false ↦ decode rs off ]
+decode [] off = None
+decode (r ∷ rs) off = elim (in_row r off) [ true ↦ Some (r.register, ((off - r.first) / 4)) | false ↦ decode rs off ]
 
 unfoldable pub rows : View → List Row
 rows Distributor = distributor_rows
@@ -262,18 +264,18 @@ by_byte FrameAffinity = false
 -- j is the byte of the word that the offset names
 unfoldable pub read_access : Access → List ℕ → View → Decoded → ℕ → ℕ
 read_access none s x d j = 0
-read_access whole s x Unlisted j = 0
-read_access whole s x (Listed r k) j = read Guest s x r k
-read_access one s x Unlisted j = 0
-read_access one s x (Listed r k) j = cond (by_byte r) (read Guest s x r k / 2 ^ (8 * j) % 256) 0
+read_access whole s x None j = 0
+read_access whole s x (Some (r, k)) j = read Guest s x r k
+read_access one s x None j = 0
+read_access one s x (Some (r, k)) j = cond (by_byte r) (read Guest s x r k / 2 ^ (8 * j) % 256) 0
 
 -- a write uses the low bits of its size
 unfoldable pub write_access : Access → List ℕ → View → Decoded → ℕ → ℕ → List ℕ
 write_access none s x d j value = s
-write_access whole s x Unlisted j value = s
-write_access whole s x (Listed r k) j value = write Guest s x r k (value % 2 ^ 32)
-write_access one s x Unlisted j value = s
-write_access one s x (Listed r k) j value = cond (by_byte r) (write_priority s x (λ i. eqb i j) k (value % 256 * 2 ^ (8 * j))) s
+write_access whole s x None j value = s
+write_access whole s x (Some (r, k)) j value = write Guest s x r k (value % 2 ^ 32)
+write_access one s x None j value = s
+write_access one s x (Some (r, k)) j value = cond (by_byte r) (write_priority s x (λ i. eqb i j) k (value % 256 * 2 ^ (8 * j))) s
 
 unfoldable pub guest_read : List ℕ → View → ℕ → ℕ → ℕ
 guest_read s x off size = read_access (access off size) s x (decode (rows x) off) (off % 4)

@@ -3,6 +3,8 @@
 // The words of a state, and the most vCPUs that it has.
 pub const STATE_LENGTH: usize = 1760;
 
+pub type State = [u32; STATE_LENGTH];
+
 pub const MOST_VCPUS: usize = 8;
 
 // The set-up.

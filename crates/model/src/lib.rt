@@ -1,37 +1,26 @@
-// The types that the definitions of specs/ and the code share, the places of the state, and the numbers. There is nothing to run.
+// The types that the definitions of specs/ and the code share, the places of the state, and the numbers.
 #![tactic(auto)]
 
 pub mod layout;
 pub mod values;
 
-// The table of refusals.
-#[derive(Clone, Copy)]
+ghost use Rattle.std.specs.Prelude.{◌≡◌, ◌<◌};
+ghost use Rattle.model.specs.Interface.{group_index};
+
+// The table of refusals, each with its number.
+#[derive(Clone, Copy, Debug, PartialEq, Eq)]
 pub enum Errno {
-    Eperm,
-    Eio,
-    Enxio,
-    Enomem,
-    Efault,
-    Ebusy,
-    Eexist,
-    Enodev,
-    Einval,
-    Enospc,
-    Ebadmsg,
-}
-
-// Whether a call is refused, and with what.
-#[derive(Clone, Copy)]
-pub enum Refusal {
-    None,
-    Refuse(Errno),
-}
-
-// What a call answers.
-#[derive(Clone, Copy)]
-pub enum Answer {
-    Value(u32),
-    Refused(Errno),
+    Eperm = 1,
+    Eio = 5,
+    Enxio = 6,
+    Enomem = 12,
+    Efault = 14,
+    Ebusy = 16,
+    Eexist = 17,
+    Enodev = 19,
+    Einval = 22,
+    Enospc = 28,
+    Ebadmsg = 74,
 }
 
 // Where a memory-mapped register stands: in the distributor, or in the frame of a vCPU.
@@ -94,36 +83,46 @@ pub enum Register {
     FrameAffinity, // GICR_TYPER, high word
 }
 
-// What an offset decodes to: a register and the number of its word, or nothing.
-#[derive(Clone, Copy)]
-pub enum Decoded {
-    Listed(Register, usize),
-    Unlisted,
+// The interrupt groups.
+#[derive(Clone, Copy, Debug, PartialEq, Eq)]
+pub enum InterruptGroup {
+    Group0 = 0,
+    Group1 = 1,
 }
 
-// The system registers for guest and attribute, both ways. A number is the interrupt group.
+impl InterruptGroup {
+    // Its number: 0 or 1.
+    pub fn index(self) -> usize
+        ensures number { result ≡ group_index self }
+        ensures below { result < 2 }
+    {
+        self as usize
+    }
+}
+
+// The system registers for guest and attribute, both ways.
 #[derive(Clone, Copy)]
 pub enum Plain {
     Pmr, // ICC_PMR_EL1
-    Bpr(usize), // ICC_BPR0_EL1, ICC_BPR1_EL1
-    Apr(usize), // ICC_AP0R0_EL1, ICC_AP1R0_EL1
+    Bpr(InterruptGroup), // ICC_BPR0_EL1, ICC_BPR1_EL1
+    Apr(InterruptGroup), // ICC_AP0R0_EL1, ICC_AP1R0_EL1
     Ctlr, // ICC_CTLR_EL1
     Sre, // ICC_SRE_EL1
-    Igrpen(usize), // ICC_IGRPEN0_EL1, ICC_IGRPEN1_EL1
+    Igrpen(InterruptGroup), // ICC_IGRPEN0_EL1, ICC_IGRPEN1_EL1
 }
 
 // The system registers that a guest only reads.
 #[derive(Clone, Copy)]
 pub enum Readable {
-    Iar(usize), // ICC_IAR0_EL1, ICC_IAR1_EL1
-    Hppir(usize), // ICC_HPPIR0_EL1, ICC_HPPIR1_EL1
+    Iar(InterruptGroup), // ICC_IAR0_EL1, ICC_IAR1_EL1
+    Hppir(InterruptGroup), // ICC_HPPIR0_EL1, ICC_HPPIR1_EL1
     Rpr, // ICC_RPR_EL1
 }
 
 // The system registers that a guest only writes.
 #[derive(Clone, Copy)]
 pub enum Writable {
-    Eoir(usize), // ICC_EOIR0_EL1, ICC_EOIR1_EL1
+    Eoir(InterruptGroup), // ICC_EOIR0_EL1, ICC_EOIR1_EL1
     Dir, // ICC_DIR_EL1
     Sgi1r, // ICC_SGI1R_EL1
     Sgi0r, // ICC_SGI0R_EL1
@@ -156,12 +155,11 @@ pub enum AttributeGroup {
     Unknown,
 }
 
-// What an attribute of the groups 1, 5, 6 and 7 names: a word of a memory-mapped register, a system register of the vCPU whose frame the view is, or nothing.
+// What an attribute of the groups 1, 5, 6 and 7 names: a word of a memory-mapped register, or a system register of the vCPU whose frame the view is.
 #[derive(Clone, Copy)]
 pub enum Item {
     Mapped(View, Register, usize),
     System(View, Plain),
-    Nameless,
 }
 
 // The phase that a call asks for: EBUSY in another.

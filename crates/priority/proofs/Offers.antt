@@ -1,11 +1,12 @@
 -- What acknowledge, the highest pending and the signal give, from the tests of the code.
+use Rattle.std.specs.Prelude.{Ok, Err}
 use Prim.Native.Nat.{ℕ, ◌+◌, ◌*◌, ◌/◌, ◌%◌, ◌^◌, ◌<◌, ◌≤◌}
 use mathlib.Core.Path.{◌≡◌, refl, sym}
 use mathlib.Core.Bool.{Bool, true, false, not, ◌&&◌, ◌||◌}
 use mathlib.Core.List.{List}
 use native.Mathlib.Omega.{arith}
 use native.Mathlib.Nat.{div-mul-le_self}
-use borrow.Author.Tests.{ltb-true, lt-ltb, le-ltb, eq-eqb, ne_eqb}
+use borrow.Author.Tests.{ltb-true, lt-ltb, le-ltb}
 use lib.Dec.{eqb, ltb}
 use lib.ListN.{set}
 use mir.Syntax.{w32}
@@ -16,7 +17,6 @@ use Rattle.model.specs.Layout.{word, block, pmr_at, bpr_at, apr_at, latch_field,
 use Rattle.model.specs.Interrupts.{group, set_flag}
 use Rattle.model.specs.Interface.{best, nothing, found, cleared_bits, group_priority, running_level, running_priority, of_group, gives, offered, level_of, set_level, taken, level_clear, acknowledged, highest_pending, signal}
 use Rattle.model.specs.Refusals.{first_failing}
-use Rattle.model.specs.declared.Answer.TheVariants.{Value, Refused}
 use Rattle.model.specs.declared.Errno.TheVariants.{Eio}
 use Rattle.model.proofs.Tests.{both}
 use Rattle.model.proofs.Refused.{told-no, told-yes}
@@ -29,11 +29,11 @@ module _ (s : List ℕ) (v g : ℕ) where
   module _ (at : ℕ) (a : at ≡ block v) where
     pub point-zero : g ≡ 0 → word s (at + 21) + 1 ≡ cleared_bits s v g
     unfolding cleared_bits
-    point-zero e = rw (a, eq-eqb g 0 e)
+    point-zero e = rw (a, e)
 
-    pub point-one : ¬ (g ≡ 0) → word s (at + 22) ≡ cleared_bits s v g
+    pub point-one : g ≡ 1 → word s (at + 22) ≡ cleared_bits s v g
     unfolding cleared_bits
-    point-one e = rw (a, ne_eqb g 0 e)
+    point-one e = rw (a, e)
 
     pub zero-small : word s (bpr_at v 0) ≤ 7 → word s (at + 21) + 1 ≤ 8
     zero-small l = rw a (omega arith)
@@ -48,9 +48,10 @@ module _ (s : List ℕ) (v g : ℕ) where
     unfolding running_level
     lowest-level r h = (rw a at h.0, h.1)
 
-    pub level-put : (level : ℕ) (on : Bool) (w : ℕ) (t : List ℕ) → w ≡ with_bit (word s (at + (23 + g))) level on → t ≡ set s (apr_at v g) w → t ≡ set_level on v g level s
+    pub level-put : (i level : ℕ) (on : Bool) (w : ℕ) (t : List ℕ) → i ≡ g → w ≡ with_bit (word s (at + (23 + i))) level on → t ≡ set s (block v + (23 + i)) w
+        → t ≡ set_level on v g level s
     unfolding set_level
-    level-put level on w t e q = rw (q, e, a)
+    level-put i level on w t k e q = rw (q, e, a, k)
 
   pub cleared : (p n r : ℕ) → n ≡ cleared_bits s v g → r ≡ p / 2 ^ n * 2 ^ n → r ≡ group_priority s v g p
   unfolding group_priority
@@ -68,14 +69,14 @@ module _ (s : List ℕ) (v g : ℕ) where
   idle r e l = rw (← e, le-ltb r 32 l)
 
   -- no register has bit 32
-  pub no-level : (level : ℕ) → ((k : ℕ) → Fits w32 (word s k)) → level ≡ 32 → false ≡ bit (word s (apr_at v g)) level
-  no-level level f e = sym (bit-above 32 (word s (apr_at v g)) level (f (apr_at v g)).fits (omega arith))
+  pub no-level : (level : ℕ) → ((k : ℕ) → word s k < 2 ^ 32) → level ≡ 32 → false ≡ bit (word s (apr_at v g)) level
+  no-level level f e = sym (bit-above 32 (word s (apr_at v g)) level (f (apr_at v g)) (omega arith))
 
   -- ---- what the best b is to the group
 
-  pub group-tested : (b : ℕ) (t : Bool) → t ≡ group s v (b % id_span) → (ltb b (256 * id_span) && eqb (bool_byte t) g) ≡ of_group s v g b
+  pub group-tested : (b i : ℕ) (t : Bool) → t ≡ group s v (b % id_span) → i ≡ g → (ltb b (256 * id_span) && eqb (bool_byte t) i) ≡ of_group s v g b
   unfolding of_group
-  group-tested b t e = rw (← e) (go t)
+  group-tested b i t e k = rw (← e, k) (go t)
     where
       go : (t : Bool) → (ltb b (256 * id_span) && eqb (bool_byte t) g) ≡ (ltb b (256 * id_span) && eqb (val t) g)
       go true = refl
@@ -117,7 +118,7 @@ module _ (s : List ℕ) (v g : ℕ) where
 
       -- ---- acknowledge
 
-      pub none-given : not t ≡ true → Acknowledges g v s (Value spurious) s
+      pub none-given : not t ≡ true → Acknowledges g v s (Ok spurious) s
       unfolding first_failing level_clear acknowledged
       none-given h = rw (offers-nothing h) (record { answer = refl; state = refl })
 
@@ -126,12 +127,12 @@ module _ (s : List ℕ) (v g : ℕ) where
         unfolding level_clear level_of
         same-level = rw (offers h, lt-ltb b (256 * id_span) (given_below h), ← c, ← d)
 
-        pub level-taken : u ≡ true → Acknowledges g v s (Refused Eio) s
+        pub level-taken : u ≡ true → Acknowledges g v s (Err Eio) s
         unfolding first_failing
         level-taken k = rw (same-level, k) (record { answer = refl; state = refl })
 
         pub given : (x : List ℕ) → u ≡ false → x ≡ set_level true v g (p / 8) (set_flag latch_field false v (b % id_span) (set_flag active_field true v (b % id_span) s))
-            → Acknowledges g v s (Value (b % id_span)) x
+            → Acknowledges g v s (Ok (b % id_span)) x
         unfolding first_failing acknowledged taken level_of
         given x k m = rw (same-level, k, offers h, lt-ltb b (256 * id_span) (given_below h), ← c) (record { answer = refl; state = m })
 

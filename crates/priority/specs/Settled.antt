@@ -1,22 +1,18 @@
 -- What is answered and left by tests, a value and a next state; and those of an acknowledge.
-use Rattle.std.specs.Prelude.{ℕ, ◌≡◌, List, [], ◌∷◌}
-use Rattle.model.specs.Refusals.{first_failing}
+use Rattle.std.specs.Prelude.{ℕ, ◌≡◌, List, [], ◌∷◌, Ok, Err}
+use Rattle.model.specs.Refusals.{Answer, Refusal, first_failing}
 use Rattle.model.specs.Interface.{rank_id, offered, level_clear, acknowledged}
 use Rattle.model.specs.declared.Errno.TheVariants.{Eio}
-use Rattle.model.specs.declared.Refusal.{Refusal}
-use Rattle.model.specs.declared.Refusal.TheVariants.{None, Refuse}
-use Rattle.model.specs.declared.Answer.{Answer}
-use Rattle.model.specs.declared.Answer.TheVariants.{Value, Refused}
 
 -- the value, or the refusal
 abbrev pub answered : Refusal → ℕ → Answer
-answered None x = Value x
-answered (Refuse e) x = Refused e
+answered (Ok tt) x = Ok x
+answered (Err e) x = Err e
 
 -- the next state; a refusal leaves the state as it was
 abbrev pub leaves : Refusal → List ℕ → List ℕ → List ℕ
-leaves None next s = next
-leaves (Refuse e) next s = s
+leaves (Ok tt) next s = next
+leaves (Err e) next s = s
 
 pub record Settled (q : Refusal) (x : ℕ) (next s : List ℕ) (a : Answer) (t : List ℕ) : Type 0 where
   pub answer : a ≡ answered q x

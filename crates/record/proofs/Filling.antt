@@ -1,28 +1,27 @@
 -- Save counts and writes the record part by part: what is left gives, with what is done, the whole.
-use Prim.Native.Nat.{ℕ, zero, suc, ◌+◌, ◌*◌, ◌-◌, ◌^◌, ◌≤◌, ◌<◌}
-use mathlib.Core.Path.{◌≡◌, refl, sym, ap, ap₂, ◌∙◌}
-use mathlib.Core.Bool.{Bool, true}
+use Prim.Native.Nat.{ℕ, ◌+◌, ◌*◌, ◌≤◌, ◌<◌}
+use mathlib.Core.Path.{◌≡◌, refl, sym, ap, ◌∙◌}
+use mathlib.Core.Bool.{true}
 use mathlib.Core.List.{List, [], ◌∷◌, ◌++◌, append_assoc}
 use native.Mathlib.Omega.{arith}
-use native.Mathlib.Nat.{zero-add, add-suc, add-zero}
+use native.Mathlib.Nat.{zero-add}
 use borrow.Author.Tests.{le-leb}
 use mir.Syntax.{w64}
 use mir.Val.{Fits}
 use lib.Dec.{leb}
-use lib.ListN.{length, get_or, take, drop, length-append, drop_of_length-le}
-use lib.Seq.{sets, length-sets, drop-cons}
-use Rattle.model.specs.Words.{each}
+use lib.ListN.{length, get_or, drop, length-append, drop_of_length-le}
+use lib.Seq.{sets, length-sets}
+use Rattle.std.specs.List.{sum}
 use Rattle.model.specs.Layout.{state_length, word}
 use Rattle.model.specs.Record.{encode, record_of}
 use Rattle.model.specs.Demands.{Stopped}
 use Rattle.model.proofs.Numbers.{encode-short}
 use Rattle.model.proofs.Soundness.{stopped-ready}
-use Rattle.record.specs.Table.{Slot, slot, shown, plain, slot_read, slot_bytes, slots_in, blank, parts, slots, left_at, ShapeOf, Inside}
-use Rattle.record.specs.Written.{words_bytes, Small, Wrote}
-use Rattle.record.specs.declared.table.Kind.{Kind}
-use Rattle.record.specs.declared.table.Kind.TheVariants.{Exactly, SetUp, Within, Fields, Above, Edges}
+use Rattle.std.proofs.lemmas.List.{length-take-le, length-drop, get_or-take, get_or-drop}
+use Rattle.record.specs.Table.{Slot, slot, words_in, shown, slot_read, slot_bytes, slots_in, blank, parts, slots, left_at, ShapeOf, Inside}
+use Rattle.record.specs.Written.{Small, Wrote}
 use Rattle.record.specs.declared.table.Part.{Part}
-use Rattle.record.specs.declared.table.Shape.{Shape}
+use Rattle.record.specs.declared.shape.Shape.{Shape}
 use Rattle.record.proofs.Bytes.{sets-next, drop-next}
 use Rattle.record.proofs.Lists.{length_run, run_at}
 use Rattle.record.proofs.Order.{length-slots}
@@ -31,15 +30,7 @@ use Rattle.record.proofs.Walking.{left-all, left-whole, left_end}
 
 -- ---- bytes one after the other
 
--- the first of some words, of the values of a part, and of the parts
-words-next : (ws : List ℕ) (i : ℕ) → i < length ws → words_bytes (drop i ws) ≡ encode (get_or ws i 0) ++ words_bytes (drop (i + 1) ws)
-unfolding words_bytes
-words-next ws i l = rw (drop-next ws i 0 l)
-
-words-end : (ws : List ℕ) (i : ℕ) → length ws ≤ i → words_bytes (drop i ws) ≡ []
-unfolding words_bytes
-words-end ws i l = rw (drop_of_length-le ws l)
-
+-- the first of the values of a part, and of the parts
 module _ (s : List ℕ) where
   bytes-append : (xs ys : List Slot) → slot_bytes s (xs ++ ys) ≡ slot_bytes s xs ++ slot_bytes s ys
   unfolding slot_bytes
@@ -71,32 +62,25 @@ module _ (s : List ℕ) where
   bytes-short [] = omega arith
   bytes-short (x ∷ xs) = omega (arith, length-append (encode (slot_read s x)) (slot_bytes s xs), encode-short (slot_read s x), bytes-short xs)
 
-  -- a part that is shown as it is: its words
-  as-words : (k : Kind) → plain k ≡ true → (q f b n : ℕ) → q + b + n ≤ length s → slot_bytes s (each (λ j. slot (q + j) k (f + j) ∷ []) b n) ≡ words_bytes (take n (drop (q + b) s))
-  unfolding each slot_bytes words_bytes
-  as-words k h q f b zero l = refl
-  as-words k h q f b (suc n) l = rw (drop-cons s (q + b) 0 (omega arith)) (ap₂ (λ (x : ℕ) (y : List ℕ). encode x ++ y) (as_is k h) (as-words k h q f (suc b) n (omega arith) ∙ rw add-suc))
-    where
-      as_is : (k : Kind) → plain k ≡ true → slot_read s (slot (q + b) k (f + b)) ≡ word s (q + b)
-      as_is (Exactly n) h = unfold plain in (let z : ◌≡◌ {A = ℕ} 0 1 = cc in absurd (omega arith))
-      as_is SetUp h = unfold slot_read shown in refl
-      as_is (Within m) h = unfold slot_read shown in refl
-      as_is (Fields b) h = unfold slot_read shown in refl
-      as_is (Above a m) h = unfold plain in (let z : ◌≡◌ {A = ℕ} 0 1 = cc in absurd (omega arith))
-      as_is (Edges b) h = unfold plain in (let z : ◌≡◌ {A = ℕ} 0 1 = cc in absurd (omega arith))
+  -- the words of a part
+  module _ (p : Part) (size : length s ≡ state_length) (i : Inside p) where
+    length-words : length (words_in s p) ≡ p.len
+    length-words = length-take-le p.len (drop (p.base + p.first) s) (rw length-drop (omega (arith, i.within)))
 
-  part-words : length s ≡ state_length → (p : Part) → Inside p → (r : Bool) → r ≡ plain p.kind → r ≡ true
-      → words_bytes (take (p.base + p.first + p.len - (p.base + p.first)) (drop (p.base + p.first) s)) ≡ slot_bytes s (slots_in p)
-  part-words size p i r h t =
-      let z : p.base + p.first + p.len - (p.base + p.first) ≡ p.len = omega arith in
-      rw z (sym (as-words p.kind (sym h ∙ t) (p.base + p.first) p.first 0 p.len (omega (arith, i.within)) ∙ rw add-zero))
+    module _ (ws : List ℕ) (e : ws ≡ words_in s p) where
+      module _ (j : ℕ) (l : j < length ws) where
+        within : j < p.len
+        within = rw (e, length-words) at l
+
+        word-is : get_or ws j 0 ≡ word s (p.base + p.first + j)
+        word-is = rw e (get_or-take p.len (drop (p.base + p.first) s) j 0 within ∙ get_or-drop (p.base + p.first) s j 0)
+
+        value-bytes : (v : ℕ) → v ≡ shown p.kind (get_or ws j 0) → slot_bytes s (drop j (slots_in p)) ≡ encode v ++ slot_bytes s (drop (j + 1) (slots_in p))
+        value-bytes v h = rw (h, word-is) (values-next p j within)
 
 -- ---- the record of a stopped device
 
 module _ (s : List ℕ) (st : Stopped s) where
-  pub stopped-length : length s ≡ state_length
-  stopped-length = (stopped-ready s st).size
-
   module _ (h : Shape) (sh : ShapeOf s h) where
     abbrev table : List Part
     table = parts h.count h.vcpus
@@ -112,26 +96,16 @@ module _ (s : List ℕ) (st : Stopped s) where
     record-short = rw (← bytes-all, left-all table) (bytes-short s (slots h.count h.vcpus))
 
     record-most : length (record_of s) ≤ 8210
-    record-most = omega (arith, record-short, length-slots h.count h.vcpus, sh.sized.most, sh.sized.few)
+    record-most = omega (arith, record-short, length-slots h.count h.vcpus, h.most, h.few)
 
     -- a buffer of five bytes to each value has room
     pub room-surely : (len n : ℕ) → n ≡ length (slots h.count h.vcpus) → 5 * n ≤ len → true ≡ leb (length (record_of s)) len
     room-surely len n e l = sym (le-leb (length (record_of s)) len (omega (arith, record-short)))
 
-pub room-counted : (s : List ℕ) (len n : ℕ) → n ≡ length (record_of s) → leb n len ≡ leb (length (record_of s)) len
-room-counted s len n e = rw e
-
--- what a value of a part is shown as
-pub value-small : (s : List ℕ) (p : Part) → Small s p → (j : ℕ) → j < p.len → shown p.kind (word s (p.base + p.first + j)) < 2 ^ 32
-value-small s p h j l = h.small j l
-
 -- ---- counting: `sum` of the bytes `all`, and `left` is left
 
 pub record Counting (all : List ℕ) (sum : ℕ) (left : List ℕ) : Type 0 where
   pub whole : sum + length left ≡ length all
-
-pub counting-none : (all : List ℕ) → Counting all 0 all
-counting-none all = record { whole = zero-add (length all) }
 
 module _ (all : List ℕ) (sum : ℕ) where
   counting-next : (left xs ys : List ℕ) → left ≡ xs ++ ys → Counting all sum left → (n : ℕ) → n ≡ length xs → Counting all (sum + n) ys
@@ -140,78 +114,29 @@ module _ (all : List ℕ) (sum : ℕ) where
   counting-end : (left : List ℕ) → left ≡ [] → Counting all sum left → sum ≡ length all
   counting-end left e w = omega (arith, w.whole, ap length e)
 
-  module _ (ws : List ℕ) (i : ℕ) (w : Counting all sum (words_bytes (drop i ws))) where
-    pub words-counting : i < length ws → (x : ℕ) → x ≡ get_or ws i 0 → (n : ℕ) → n ≡ length (encode x) → Counting all (sum + n) (words_bytes (drop (i + 1) ws))
-    words-counting l x h n q = counting-next (words_bytes (drop i ws)) (encode (get_or ws i 0)) (words_bytes (drop (i + 1) ws)) (words-next ws i l) w n (rw h at q)
-
-    pub words-counted : length ws ≤ i → sum ≡ length all
-    words-counted l = counting-end _ (words-end ws i l) w
-
   module _ (s : List ℕ) where
-    module _ (p : Part) (j : ℕ) (w : Counting all sum (slot_bytes s (drop j (slots_in p)))) where
-      pub values-counting : j < p.len → (x : ℕ) → x ≡ shown p.kind (word s (p.base + p.first + j)) → (n : ℕ) → n ≡ length (encode x) → Counting all (sum + n) (slot_bytes s (drop (j + 1) (slots_in p)))
-      values-counting l x h n q = counting-next (slot_bytes s (drop j (slots_in p))) (encode (shown p.kind (word s (p.base + p.first + j)))) (slot_bytes s (drop (j + 1) (slots_in p))) (values-next s p j l) w n (rw h at q)
+    module _ (p : Part) (size : length s ≡ state_length) (i : Inside p) (ws : List ℕ) (e : ws ≡ words_in s p) (j : ℕ) (w : Counting all sum (slot_bytes s (drop j (slots_in p)))) where
+      pub values-counting : j < length ws → (v : ℕ) → v ≡ shown p.kind (get_or ws j 0) → (n : ℕ) → n ≡ length (encode v) → Counting all (sum + n) (slot_bytes s (drop (j + 1) (slots_in p)))
+      values-counting l v h n q = counting-next (slot_bytes s (drop j (slots_in p))) (encode v) (slot_bytes s (drop (j + 1) (slots_in p))) (value-bytes s p size i ws e j l v h) w n q
 
-      pub values-counted : p.len ≤ j → sum ≡ length all
-      values-counted l = counting-end _ (values-end s p j l) w
+      pub values-counted : length ws ≤ j → sum ≡ length all
+      values-counted l = counting-end _ (values-end s p j (rw (e, length-words s p size i) at l)) w
 
     module _ (ps : List Part) (k : ℕ) (w : Counting all sum (slot_bytes s (left_at ps k 0))) where
-      pub parts-counting : (n : ℕ) → n ≡ length (slot_bytes s (slots_in (get_or ps k blank))) → Counting all (sum + n) (slot_bytes s (left_at ps (k + 1) 0))
-      parts-counting n q = counting-next (slot_bytes s (left_at ps k 0)) (slot_bytes s (slots_in (get_or ps k blank))) (slot_bytes s (left_at ps (k + 1) 0)) (parts_next s ps k) w n q
+      pub parts-counting : (p : Part) → p ≡ get_or ps k blank → (n : ℕ) → n ≡ length (slot_bytes s (slots_in p)) → Counting all (sum + n) (slot_bytes s (left_at ps (k + 1) 0))
+      parts-counting p e n q = counting-next (slot_bytes s (left_at ps k 0)) (slot_bytes s (slots_in (get_or ps k blank))) (slot_bytes s (left_at ps (k + 1) 0)) (parts_next s ps k) w n (rw e at q)
 
 -- a sum is small
-words-short : (ws : List ℕ) → length (words_bytes ws) ≤ 5 * length ws
-unfolding words_bytes
-words-short [] = omega arith
-words-short (x ∷ ws) = omega (arith, length-append (encode x) (words_bytes ws), encode-short x, words-short ws)
-
-pub words-fit : (ws : List ℕ) → length ws ≤ state_length → (sum i : ℕ) → Counting (words_bytes ws) sum (words_bytes (drop i ws)) → i < length ws → (x : ℕ) → x ≡ get_or ws i 0 → (n : ℕ) → n ≡ length (encode x) → Fits w64 (sum + n)
-words-fit ws m sum i w l x h n q = record { fits = omega (arith, (words-counting (words_bytes ws) sum ws i w l x h n q).whole, words-short ws) }
-
-pub values-fit : (s : List ℕ) (p : Part) → Inside p → (sum j : ℕ) → Counting (slot_bytes s (slots_in p)) sum (slot_bytes s (drop j (slots_in p))) → j < p.len → (x : ℕ) → x ≡ shown p.kind (word s (p.base + p.first + j)) → (n : ℕ) → n ≡ length (encode x) → Fits w64 (sum + n)
-values-fit s p i sum j w l x h n q = record { fits = omega (arith, (values-counting (slot_bytes s (slots_in p)) sum s p j w l x h n q).whole, bytes-short s (slots_in p), length_run (at-word s p j 0) (at-word s p j) 0 p.len, i.within) }
-
--- ---- part p of the table, which is q there
-
-pub part-inside : (s : List ℕ) → Stopped s → (p : Part) → Inside p → p.base + p.first + p.len ≤ length s
-part-inside s st p i = omega (arith, stopped-length s st, i.within)
-
-module _ (s : List ℕ) (p q : Part) (e : p ≡ q) where
-  pub values_of : (n : ℕ) → n ≡ length (slot_bytes s (slots_in p)) → n ≡ length (slot_bytes s (slots_in q))
-  values_of n h = rw e at h
-
-  module _ (b : List ℕ) (at : ℕ) where
-    pub values-room : at + length (slot_bytes s (slots_in q)) ≤ length b → at + length (slot_bytes s (slots_in p)) ≤ length b
-    values-room l = rw e l
-
-    pub values-saved : (n : ℕ) (b' : List ℕ) → Wrote b at (slot_bytes s (slots_in p)) n b' → Wrote b at (slot_bytes s (slots_in q)) n b'
-    values-saved n b' w = rw e at w
-
-  -- it is shown as it is
-  module _ (st : Stopped s) (i : Inside p) (r : Bool) (h : r ≡ plain p.kind) (t : r ≡ true) where
-    abbrev own : List ℕ
-    own = words_bytes (take (p.base + p.first + p.len - (p.base + p.first)) (drop (p.base + p.first) s))
-
-    own-bytes : own ≡ slot_bytes s (slots_in q)
-    own-bytes = part-words s (stopped-length s st) p i r h t ∙ rw e
-
-    pub plain-counted : (n : ℕ) → n ≡ length own → n ≡ length (slot_bytes s (slots_in q))
-    plain-counted n z = z ∙ ap length own-bytes
-
-    module _ (b : List ℕ) (at : ℕ) where
-      pub plain-room : at + length (slot_bytes s (slots_in q)) ≤ length b → at + length own ≤ length b
-      plain-room l = rw own-bytes l
-
-      pub plain-saved : (n : ℕ) (b' : List ℕ) → Wrote b at own n b' → Wrote b at (slot_bytes s (slots_in q)) n b'
-      plain-saved n b' w = rw own-bytes at w
+pub values-fit : (s : List ℕ) (p : Part) → length s ≡ state_length → Inside p → (ws : List ℕ) → ws ≡ words_in s p → (sum j : ℕ) → Counting (slot_bytes s (slots_in p)) sum (slot_bytes s (drop j (slots_in p))) → j < length ws → (v : ℕ) → v ≡ shown p.kind (get_or ws j 0) → (n : ℕ) → n ≡ length (encode v) → Fits w64 (sum + n)
+values-fit s p size i ws e sum j w l v h n q = record { fits = omega (arith, (values-counting (slot_bytes s (slots_in p)) sum s p size i ws e j w l v h n q).whole, bytes-short s (slots_in p), length_run (at-word s p j 0) (at-word s p j) 0 p.len, i.within) }
 
 module _ (s : List ℕ) (st : Stopped s) (h : Shape) (sh : ShapeOf s h) where
   pub record-uncounted : Counting (record_of s) 0 (slot_bytes s (left_at (parts h.count h.vcpus) 0 0))
   record-uncounted = record { whole = rw (bytes-all s st h sh) (zero-add (length (record_of s))) }
 
   module _ (sum k : ℕ) (w : Counting (record_of s) sum (slot_bytes s (left_at (parts h.count h.vcpus) k 0))) where
-    pub record-fits : (n : ℕ) → n ≡ length (slot_bytes s (slots_in (get_or (parts h.count h.vcpus) k blank))) → Fits w64 (sum + n)
-    record-fits n q = record { fits = omega (arith, (parts-counting (record_of s) sum s (parts h.count h.vcpus) k w n q).whole, record-most s st h sh) }
+    pub record-fits : (p : Part) → p ≡ get_or (parts h.count h.vcpus) k blank → (n : ℕ) → n ≡ length (slot_bytes s (slots_in p)) → Fits w64 (sum + n)
+    record-fits p e n q = record { fits = omega (arith, (parts-counting (record_of s) sum s (parts h.count h.vcpus) k w p e n q).whole, record-most s st h sh) }
 
     pub record-counted : (n : ℕ) → n ≡ length (parts h.count h.vcpus) → n ≤ k → sum ≡ length (record_of s)
     record-counted n e l = counting-end (record_of s) sum _ (parts-end s (parts h.count h.vcpus) k n e l) w
@@ -242,35 +167,24 @@ module _ (b : List ℕ) (at₀ : ℕ) (all buf : List ℕ) (at : ℕ) where
   writing-end : (left : List ℕ) → left ≡ [] → Writing b at₀ all buf at left → Wrote b at₀ all at buf
   writing-end left e w = record { place = omega (arith, w.place, ap length e); bytes = rw e at w.bytes }
 
-  module _ (ws : List ℕ) (i : ℕ) (w : Writing b at₀ all buf at (words_bytes (drop i ws))) where
-    module _ (l : i < length ws) (x : ℕ) (h : x ≡ get_or ws i 0) where
-      pub word_room : at + length (encode x) ≤ length buf
-      word_room = writing-room (words_bytes (drop i ws)) (encode x) (words_bytes (drop (i + 1) ws)) (rw h (words-next ws i l)) w
-
-      pub word-written : (at' : ℕ) → at' ≡ at + length (encode x) → (buf' : List ℕ) → buf' ≡ sets buf at (encode x) → Writing b at₀ all buf' at' (words_bytes (drop (i + 1) ws))
-      word-written = writing-next (words_bytes (drop i ws)) (encode x) (words_bytes (drop (i + 1) ws)) (rw h (words-next ws i l)) w
-
-    pub words-written : length ws ≤ i → Wrote b at₀ all at buf
-    words-written l = writing-end _ (words-end ws i l) w
-
   module _ (s : List ℕ) where
-    module _ (p : Part) (j : ℕ) (w : Writing b at₀ all buf at (slot_bytes s (drop j (slots_in p)))) where
-      module _ (l : j < p.len) (x : ℕ) (h : x ≡ shown p.kind (word s (p.base + p.first + j))) where
-        pub value_room : at + length (encode x) ≤ length buf
-        value_room = writing-room (slot_bytes s (drop j (slots_in p))) (encode x) (slot_bytes s (drop (j + 1) (slots_in p))) (rw h (values-next s p j l)) w
+    module _ (p : Part) (size : length s ≡ state_length) (i : Inside p) (ws : List ℕ) (e : ws ≡ words_in s p) (j : ℕ) (w : Writing b at₀ all buf at (slot_bytes s (drop j (slots_in p)))) where
+      module _ (l : j < length ws) (v : ℕ) (h : v ≡ shown p.kind (get_or ws j 0)) where
+        pub value_room : at + length (encode v) ≤ length buf
+        value_room = writing-room (slot_bytes s (drop j (slots_in p))) (encode v) (slot_bytes s (drop (j + 1) (slots_in p))) (value-bytes s p size i ws e j l v h) w
 
-        pub value_written : (at' : ℕ) → at' ≡ at + length (encode x) → (buf' : List ℕ) → buf' ≡ sets buf at (encode x) → Writing b at₀ all buf' at' (slot_bytes s (drop (j + 1) (slots_in p)))
-        value_written = writing-next (slot_bytes s (drop j (slots_in p))) (encode x) (slot_bytes s (drop (j + 1) (slots_in p))) (rw h (values-next s p j l)) w
+        pub value_written : (at' : ℕ) → at' ≡ at + length (encode v) → (buf' : List ℕ) → buf' ≡ sets buf at (encode v) → Writing b at₀ all buf' at' (slot_bytes s (drop (j + 1) (slots_in p)))
+        value_written = writing-next (slot_bytes s (drop j (slots_in p))) (encode v) (slot_bytes s (drop (j + 1) (slots_in p))) (value-bytes s p size i ws e j l v h) w
 
-      pub values-written : p.len ≤ j → Wrote b at₀ all at buf
-      values-written l = writing-end _ (values-end s p j l) w
+      pub values-written : length ws ≤ j → Wrote b at₀ all at buf
+      values-written l = writing-end _ (values-end s p j (rw (e, length-words s p size i) at l)) w
 
-    module _ (ps : List Part) (k : ℕ) (w : Writing b at₀ all buf at (slot_bytes s (left_at ps k 0))) where
-      pub part_room : at + length (slot_bytes s (slots_in (get_or ps k blank))) ≤ length buf
-      part_room = writing-room (slot_bytes s (left_at ps k 0)) (slot_bytes s (slots_in (get_or ps k blank))) (slot_bytes s (left_at ps (k + 1) 0)) (parts_next s ps k) w
+    module _ (ps : List Part) (k : ℕ) (w : Writing b at₀ all buf at (slot_bytes s (left_at ps k 0))) (p : Part) (e : p ≡ get_or ps k blank) where
+      pub part_room : at + length (slot_bytes s (slots_in p)) ≤ length buf
+      part_room = rw e (writing-room (slot_bytes s (left_at ps k 0)) (slot_bytes s (slots_in (get_or ps k blank))) (slot_bytes s (left_at ps (k + 1) 0)) (parts_next s ps k) w)
 
-      pub part-written : (at' : ℕ) (buf' : List ℕ) → Wrote buf at (slot_bytes s (slots_in (get_or ps k blank))) at' buf' → Writing b at₀ all buf' at' (slot_bytes s (left_at ps (k + 1) 0))
-      part-written at' buf' m = writing-next (slot_bytes s (left_at ps k 0)) (slot_bytes s (slots_in (get_or ps k blank))) (slot_bytes s (left_at ps (k + 1) 0)) (parts_next s ps k) w at' m.place buf' m.bytes
+      pub part-written : (at' : ℕ) (buf' : List ℕ) → Wrote buf at (slot_bytes s (slots_in p)) at' buf' → Writing b at₀ all buf' at' (slot_bytes s (left_at ps (k + 1) 0))
+      part-written at' buf' m = let n : Wrote buf at (slot_bytes s (slots_in (get_or ps k blank))) at' buf' = rw e at m in writing-next (slot_bytes s (left_at ps k 0)) (slot_bytes s (slots_in (get_or ps k blank))) (slot_bytes s (left_at ps (k + 1) 0)) (parts_next s ps k) w at' n.place buf' n.bytes
 
 module _ (s : List ℕ) (st : Stopped s) (h : Shape) (sh : ShapeOf s h) where
   pub record-unwritten : (b : List ℕ) → length (record_of s) ≤ length b → Writing b 0 (record_of s) b 0 (slot_bytes s (left_at (parts h.count h.vcpus) 0 0))

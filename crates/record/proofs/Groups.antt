@@ -17,8 +17,10 @@ use Rattle.model.specs.Record as model
 use Rattle.model.specs.Record.{more, read_groups, decode_number, encode}
 use Rattle.model.proofs.Numbers.{read_small, read-big, read_none, encode-small, encode-big, encode-pos}
 use Rattle.record.specs.declared.number.Begun.{Begun}
+use Rattle.std.specs.Prelude.{Result, Ok, Err}
 use Rattle.record.specs.declared.number.Number.{Number}
-use Rattle.record.specs.declared.number.Number.TheVariants.{Value, Cut, Broken}
+use Rattle.record.specs.declared.number.Unread.{Unread}
+use Rattle.record.specs.declared.number.Unread.TheVariants.{Cut, Broken}
 use Rattle.record.specs.Numbers.{value, ill, last_unit, last_group, read_on, onward, whole, told, Begins, Resumes, Ends}
 use Rattle.record.proofs.Bytes.{drop-next}
 
@@ -151,12 +153,12 @@ module _ (g : Begun) (w : Begins g) where
 -- ---- the last group
 
 module _ (g : Begun) (b next : ℕ) where
-  pub ended-zero : (eqb b 0 && not (eqb g.unit 1)) ≡ true → Ends g b next Broken
+  pub ended-zero : (eqb b 0 && not (eqb g.unit 1)) ≡ true → Ends g b next (Err Broken)
   unfolding told last_group
   ended-zero e = record { resumes = tt; number = λ s. rw e }
 
   module _ (w : Begins g) (f : (eqb b 0 && not (eqb g.unit 1)) ≡ false) where
-    pub ended-large : (eqb g.unit last_unit && leb 16 b) ≡ true → Ends g b next Broken
+    pub ended-large : (eqb g.unit last_unit && leb 16 b) ≡ true → Ends g b next (Err Broken)
     unfolding told last_group
     ended-large e =
         let p = both (eqb g.unit last_unit) (leb 16 b) e in
@@ -182,14 +184,14 @@ module _ (g : Begun) (b next : ℕ) where
       pub ended-fits : Fits w32 (g.sum + g.unit * b)
       ended-fits = record { fits = ended-below }
 
-      pub ended-whole : Ends g b next (Value (g.sum + g.unit * b) (record { at = next }))
+      pub ended-whole : Ends g b next (Ok (record { value = g.sum + g.unit * b; next = record { at = next } }))
       unfolding told last_group
       ended-whole = record { resumes = tt; number = λ s. rw (f, lt-ltb (g.sum + g.unit * b) (2 ^ 32) ended-below) }
 
 -- ---- from a place on
 
 module _ (s : List ℕ) (i : ℕ) where
-  pub cut_at : (g : Begun) → length s ≤ i → told s (Cut g) ≡ read_on g.sum g.unit (drop i s)
+  pub cut_at : (g : Begun) → length s ≤ i → told s (Err (Cut g)) ≡ read_on g.sum g.unit (drop i s)
   unfolding told read_on
   cut_at g h = rw (drop_of_length-le s h)
 
@@ -197,22 +199,19 @@ module _ (s : List ℕ) (i : ℕ) where
     byte-here : drop i s ≡ b ∷ drop (i + 1) s
     byte-here = rw (drop-next s i 0 h, ← e)
 
-    pub number_small : b < 128 → told s (Value b (record { at = i + 1 })) ≡ read_on 0 1 (drop i s)
+    pub number_small : b < 128 → told s (Ok (record { value = b; next = record { at = i + 1 } })) ≡ read_on 0 1 (drop i s)
     unfolding told
     number_small l = rw byte-here (sym (on-last 0 1 b (drop (i + 1) s) l ∙ alone b (drop (i + 1) s) l))
 
     module _ (l : 128 ≤ b) where
-      pub number-begins : b < 256 → Begins (record { sum = b - 128; unit = 128 })
-      number-begins k = record { past = 1; few = omega arith; unit = refl; small = omega arith }
-
-      pub number_more : (r : Number) → told s r ≡ read_on (b - 128) 128 (drop (i + 1) s) → told s r ≡ read_on 0 1 (drop i s)
+      pub number_more : (r : Result Number Unread) → told s r ≡ read_on (b - 128) 128 (drop (i + 1) s) → told s r ≡ read_on 0 1 (drop i s)
       number_more r m = m ∙ sym (rw (byte-here, on-more 0 1 b (drop (i + 1) s) l (λ q. omega arith), zero-add, one-mul (b - 128)) refl)
 
 -- nothing is read yet, and the answer of the last group
-pub none-begun : Resumes (Cut (record { sum = 0; unit = 1 }))
+pub none-begun : Resumes (Err (Cut (record { sum = 0; unit = 1 })))
 none-begun = record { past = 0; few = omega arith; unit = refl; small = omega arith }
 
-pub ends-resumes : (g : Begun) (b next : ℕ) (r : Number) → Ends g b next r → Resumes r
+pub ends-resumes : (g : Begun) (b next : ℕ) (r : Result Number Unread) → Ends g b next r → Resumes r
 ends-resumes g b next r e = e.resumes
 
 -- the number from i on, after the groups of h, is the number from `at` on, after those of g
@@ -221,22 +220,19 @@ pub record Rest (s : List ℕ) (g : Begun) (at : ℕ) (h : Begun) (i : ℕ) : Ty
   pub number : read_on h.sum h.unit (drop i s) ≡ read_on g.sum g.unit (drop at s)
 
 module _ (s : List ℕ) (g : Begun) (at : ℕ) where
-  pub rest-first : Begins g → Rest s g at g at
-  rest-first w = record { begins = w; number = refl }
-
   module _ (h : Begun) (i : ℕ) (w : Rest s g at h i) where
-    pub rest-resumes : Resumes (Cut h)
+    pub rest-resumes : Resumes (Err (Cut h))
     rest-resumes = w.begins
 
-    pub rest-cut : length s ≤ i → told s (Cut h) ≡ read_on g.sum g.unit (drop at s)
+    pub rest-cut : length s ≤ i → told s (Err (Cut h)) ≡ read_on g.sum g.unit (drop at s)
     rest-cut l = cut_at s i h l ∙ w.number
 
     module _ (b : ℕ) (e : b ≡ get_or s i 0) (k : i < length s) where
-      pub rest-ends : b < 128 → (r : Number) → Ends h b (i + 1) r → told s r ≡ read_on g.sum g.unit (drop at s)
+      pub rest-ends : b < 128 → (r : Result Number Unread) → Ends h b (i + 1) r → told s r ≡ read_on g.sum g.unit (drop at s)
       rest-ends l r m = m.number s ∙ rw (byte-here s i b e k, on-last h.sum h.unit b (drop (i + 1) s) l) at w.number
 
       module _ (l : 128 ≤ b) where
-        pub rest_over : h.unit ≡ last_unit → told s Broken ≡ read_on g.sum g.unit (drop at s)
+        pub rest_over : h.unit ≡ last_unit → told s (Err Broken) ≡ read_on g.sum g.unit (drop at s)
         unfolding told
         rest_over q = rw (byte-here s i b e k, on-over h.sum h.unit b (drop (i + 1) s) l q) at w.number
 

@@ -4,7 +4,6 @@ pub mod Bytes
 pub mod Lists
 pub mod Walking
 pub mod Order
-pub mod Choices
 pub mod Shapes
 pub mod Standing
 pub mod Saving

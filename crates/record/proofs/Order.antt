@@ -1,4 +1,4 @@
--- The k-th part of the table, zone by zone; how many parts there are, and how many values.
+-- The k-th part of the table, zone by zone; how many parts there are, and how many values; the numbers of a stopped device.
 use Prim.Native.Nat.{ℕ, zero, suc, ◌+◌, ◌-◌, ◌*◌, ◌/◌, ◌<◌, ◌≤◌}
 use mathlib.Core.Path.{◌≡◌, refl, sym, ◌∙◌}
 use mathlib.Core.List.{List, [], ◌∷◌, ◌++◌}
@@ -11,7 +11,9 @@ use lib.Dec.{eqb}
 use lib.ListN.{length, get_or, length-append}
 use Rattle.model.specs.Words.{each}
 use Rattle.model.specs.Values.{route_bits}
-use Rattle.model.specs.Layout.{route_at}
+use Rattle.model.specs.Layout.{route_at, most_vcpus, count, vcpus}
+use Rattle.model.specs.Demands.{Stopped}
+use Rattle.model.proofs.Soundness.{stopped-ready}
 use Rattle.model.specs.Record.{spi_words, spis}
 use Rattle.record.specs.Table.{slot, flat, blank, affinity_part, header_part, distributor_parts, bank_parts, routes_part, vcpu_parts, interrupt_part, parts, slots}
 use Rattle.record.specs.declared.table.Part.{Part}
@@ -148,3 +150,23 @@ module _ (c n : ℕ) where
         let z : k - (2 + n) - 2 ≡ k - (2 + n + 2) = omega arith in
         e ∙ sym (after-header (omega arith) ∙ past blank distributor_parts from-banks 2 (k - (2 + n)) refl (omega arith)
         ∙ rw z (interrupt-at (k - (2 + n + 2)) (omega (arith, rw length-parts at m))))
+
+-- ---- what is known of a stopped device
+
+module _ (s : List ℕ) (h : Stopped s) where
+  pub count-least : 64 ≤ count s
+  count-least = (stopped-ready s h).counted.least
+
+  pub count-most : count s ≤ 1024
+  count-most = (stopped-ready s h).counted.most
+
+  pub vcpus-few : vcpus s ≤ most_vcpus
+  vcpus-few = (stopped-ready s h).few
+
+-- ---- what the methods of a shape cite: its numbers, how many parts and values there are, part k
+
+pub ruleset numbers = (count-least, count-most, vcpus-few)
+
+pub ruleset sizes = (length-parts, length-slots)
+
+pub ruleset parts_by_number = (length-parts, part-header, part-distributor, part-interrupt)

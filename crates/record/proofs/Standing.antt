@@ -21,7 +21,7 @@ use Rattle.model.proofs.Stores.{MayStore, Free, Outside, block-store, outside-st
 use Rattle.model.proofs.Listed.{Listed, groups, enables, latches, actives, pmr, ctlr, bpr0, bpr1, ap0r, ap1r, igrpen0, igrpen1, control, status, spi-flags, spi-lines, spi-priority, spi-config, spi-route, vcpu-status, vcpu-flags, vcpu-lines, vcpu-priority, vcpu-system}
 use Rattle.model.proofs.Places.{Shape, itself, above, place_of, shape_of}
 use Rattle.model.proofs.Places as places
-use Rattle.record.specs.Table.{field_bits, field_least, shown, least_of, Slot, slot, slots_in, flat, affinity_part, distributor_parts, bank_rows, bank_parts, routes_part, vcpu_parts, parts, slots, Sized}
+use Rattle.record.specs.Table.{field_bits, field_least, shown, least_of, Slot, slot, slots_in, flat, affinity_part, distributor_parts, bank_rows, bank_parts, routes_part, vcpu_parts, parts, slots}
 use Rattle.record.specs.declared.table.Block.{Block}
 use Rattle.record.specs.declared.table.Block.TheVariants.{Vcpu, Bank, LastBank}
 use Rattle.record.specs.declared.table.Kind.{Kind}
@@ -196,6 +196,3 @@ module _ (s : List ℕ) (h : Ready s) where
   entries-mean =
       rw (flat_append, flat-each, flat_append distributor_parts, flat_append, flat-each bank_parts, flat-each) (one versions (one (fixes refl (λ d a. a.same_count)) (one (fixes refl (λ d a. a.same_number))
       (match-append (match-each (λ v. header (affinity s v) ∷ []) (λ v. flat (affinity_part v ∷ [])) 0 (vcpus s) (λ v l m. affinity-means v (omega arith))) (match-map attribute_of listed-mean)))))
-
-  pub sized : Sized (count s) (vcpus s)
-  sized = record { least = h.counted.least; most = h.counted.most; few = h.few }

@@ -1,9 +1,10 @@
 -- A number read from bytes that may end within it, and what the reader answers.
-use Rattle.std.specs.Prelude.{ℕ, ◌+◌, ◌*◌, ◌-◌, ◌^◌, ◌<◌, ◌≤◌, true, false, cond, not, ◌&&◌, List, [], ◌∷◌, ◌++◌, ◌≡◌, eqb, ltb, drop}
+use Rattle.std.specs.Prelude.{ℕ, ◌+◌, ◌*◌, ◌-◌, ◌^◌, ◌<◌, ◌≤◌, true, false, cond, not, ◌&&◌, List, [], ◌∷◌, ◌++◌, ◌≡◌, eqb, ltb, drop, Result, Ok, Err}
 use Rattle.model.specs.Record as model
 use Rattle.record.specs.declared.number.Begun.{Begun}
 use Rattle.record.specs.declared.number.Number.{Number}
-use Rattle.record.specs.declared.number.Number.TheVariants.{Value, Cut, Broken}
+use Rattle.record.specs.declared.number.Unread.{Unread}
+use Rattle.record.specs.declared.number.Unread.TheVariants.{Cut, Broken}
 
 -- its value and the bytes after it; the bytes end, the groups so far make the first number, and a 1 of the next group counts the second; or no number
 pub data Reading : Type 0 where
@@ -37,10 +38,10 @@ whole (cut x u) = model.broken
 whole ill = model.broken
 
 -- the reader's answer
-unfoldable pub told : List ℕ → Number → Reading
-told s (Value v c) = value v (drop c.at s)
-told s (Cut b) = cut b.sum b.unit
-told s Broken = ill
+unfoldable pub told : List ℕ → Result Number Unread → Reading
+told s (Ok n) = value n.value (drop n.next.at s)
+told s (Err (Cut b)) = cut b.sum b.unit
+told s (Err Broken) = ill
 
 -- the groups so far are fewer than five, and make less than a 1 of the next
 pub record Begins (b : Begun) : Type 0 where
@@ -50,12 +51,12 @@ pub record Begins (b : Begun) : Type 0 where
   pub small : b.sum < b.unit
 
 -- a number that is cut can be read on
-abbrev pub Resumes : Number → Type 0
-Resumes (Value v c) = Unit {0}
-Resumes (Cut b) = Begins b
-Resumes Broken = Unit {0}
+abbrev pub Resumes : Result Number Unread → Type 0
+Resumes (Ok n) = Unit {0}
+Resumes (Err (Cut b)) = Begins b
+Resumes (Err Broken) = Unit {0}
 
 -- the last group b after those, whatever the bytes are: `next` is the place after it
-pub record Ends (g : Begun) (b next : ℕ) (r : Number) : Type 0 where
+pub record Ends (g : Begun) (b next : ℕ) (r : Result Number Unread) : Type 0 where
   pub number : (s : List ℕ) → told s r ≡ last_group g.sum g.unit b (drop next s)
   pub resumes : Resumes r

@@ -1,9 +1,9 @@
 -- The record as a table of parts, in the order of the record, and the values that each part has.
 -- Proofs tie these to the entries of model's Record (proofs/Standing, proofs/Loading).
-use Rattle.std.specs.Prelude.{ℕ, ◌+◌, ◌*◌, ◌-◌, ◌/◌, ◌%◌, ◌≤◌, Bool, true, false, cond, ◌&&◌, List, [], ◌∷◌, ◌++◌, ◌≡◌, eqb, ltb, leb, get_or, set, drop}
+use Rattle.std.specs.Prelude.{ℕ, ◌+◌, ◌*◌, ◌-◌, ◌/◌, ◌%◌, ◌≤◌, Bool, true, false, cond, ◌&&◌, List, [], ◌∷◌, ◌++◌, ◌≡◌, eqb, ltb, leb, get_or, set, take, drop}
 use Rattle.model.specs.Words.{each, spread}
 use Rattle.model.specs.Values.{gicd_ctlr_fixed, gicd_ctlr_bits, icc_ctlr_fixed, icc_ctlr_bits, version, route_bits, statusr_bits, pmr_bits}
-use Rattle.model.specs.Layout.{most_vcpus, word, count, vcpus, initialised_at, count_at, enables_at, distributor_status_at, block, affinity_field, frame_status_field, pmr_field, ctlr_field, bpr_field, least_bpr, spi_bank, group_field, edge_field, route_at}
+use Rattle.model.specs.Layout.{word, count, vcpus, initialised_at, count_at, enables_at, distributor_status_at, block, affinity_field, frame_status_field, pmr_field, ctlr_field, bpr_field, least_bpr, spi_bank, group_field, edge_field, route_at}
 use Rattle.model.specs.Sound.{fits, block_bits, bank_bits, last_bank_bits}
 use Rattle.model.specs.Record.{spi_words, spis, encode}
 use Rattle.words.specs.Words.{collect}
@@ -12,7 +12,7 @@ use Rattle.record.specs.declared.table.Block.TheVariants.{Vcpu, Bank, LastBank}
 use Rattle.record.specs.declared.table.Kind.{Kind}
 use Rattle.record.specs.declared.table.Kind.TheVariants.{Exactly, SetUp, Within, Fields, Above, Edges}
 use Rattle.record.specs.declared.table.Part.{Part}
-use Rattle.record.specs.declared.table.Shape.{Shape}
+use Rattle.record.specs.declared.shape.Shape.{Shape}
 
 -- ---- the words that may be there, by the word f of a block: as in a sound state
 
@@ -64,15 +64,6 @@ fixed (Fields b) = false
 fixed (Above a m) = false
 fixed (Edges b) = false
 
--- the word is shown as it is
-unfoldable pub plain : Kind → Bool
-plain (Exactly n) = false
-plain SetUp = true
-plain (Within m) = true
-plain (Fields b) = true
-plain (Above a m) = false
-plain (Edges b) = false
-
 -- ---- a value of the record: the place of a word, its kind, and which word of its block it is
 
 pub data Slot : Type 0 where
@@ -90,7 +81,10 @@ takes s (slot p (Fields b) f) x = fits x (field_bits b f) && leb (field_least b 
 takes s (slot p (Above a m) f) x = leb a x && fits (x - a) m
 takes s (slot p (Edges b) f) x = eqb (spread (collect x)) x && fits (collect x) (field_bits b f)
 
--- of what the set-up fixes nothing is stored
+-- of what the set-up fixes nothing is stored: the word w, and the word that is shown as x
+unfoldable pub slot_set : List ℕ → Slot → ℕ → List ℕ
+slot_set s (slot p k f) w = cond (fixed k) s (set s p w)
+
 unfoldable pub slot_put : List ℕ → Slot → ℕ → List ℕ
 slot_put s (slot p k f) x = cond (fixed k) s (set s p (hidden k x))
 
@@ -103,6 +97,9 @@ slot_bytes s [] = []
 slot_bytes s (x ∷ xs) = encode (slot_read s x) ++ slot_bytes s xs
 
 -- ---- the values of a part, and of parts one after the other
+
+abbrev pub slot_at : Part → ℕ → Slot
+slot_at p j = slot (p.base + p.first + j) p.kind (p.first + j)
 
 abbrev pub slots_in : Part → List Slot
 slots_in p = each (λ j. slot (p.base + p.first + j) p.kind (p.first + j) ∷ []) 0 p.len
@@ -155,6 +152,10 @@ parts c n =
 abbrev pub slots : ℕ → ℕ → List Slot
 slots c n = flat (parts c n)
 
+-- of the device that has the shape h
+abbrev pub table_of : Shape → List Part
+table_of h = parts h.count h.vcpus
+
 -- the parts after the distributor's, by their number
 unfoldable pub interrupt_part : ℕ → ℕ → Part
 interrupt_part c i =
@@ -163,17 +164,14 @@ interrupt_part c i =
 
 -- ---- what the functions of the table ask and answer
 
--- the numbers of a device that has a record
-pub record Sized (c n : ℕ) : Type 0 where
-  pub least : 64 ≤ c
-  pub most : c ≤ 1024
-  pub few : n ≤ most_vcpus
-
 -- the shape of the device s
 pub record ShapeOf (s : List ℕ) (h : Shape) : Type 0 where
   pub same_count : h.count ≡ count s
   pub same_vcpus : h.vcpus ≡ vcpus s
-  pub sized : Sized h.count h.vcpus
+
+-- the words of a part
+abbrev pub words_in : List ℕ → Part → List ℕ
+words_in s p = take p.len (drop (p.base + p.first) s)
 
 -- a part is within the words that may be used
 pub record Inside (p : Part) : Type 0 where

@@ -1,20 +1,19 @@
 -- A walk over the bytes of a record, value by value: what it comes to, and what it stores.
-use Rattle.std.specs.Prelude.{ℕ, cond, ltb, List, [], ◌∷◌, ◌≡◌, length, drop}
+use Rattle.std.specs.Prelude.{ℕ, cond, ltb, List, [], ◌∷◌, ◌≡◌, length, drop, Result, Ok, Err}
 use Rattle.model.specs.Sound.{fresh}
-use Rattle.model.specs.Refusals.{Check, first_failing}
+use Rattle.model.specs.Refusals.{Refusal, Check, first_failing}
 use Rattle.model.specs.Record.{Loaded, done, fault, faults, restored, loaded_state}
 use Rattle.model.specs.Calls.{phase}
 use Rattle.model.specs.declared.Errno.{Errno}
 use Rattle.model.specs.declared.Errno.TheVariants.{Eexist, Einval, Ebadmsg}
 use Rattle.model.specs.declared.Phase.TheVariants.{Stopped}
-use Rattle.model.specs.declared.Refusal.{Refusal}
-use Rattle.model.specs.declared.Refusal.TheVariants.{None, Refuse}
 use Rattle.record.specs.Numbers.{Reading, value, cut, ill, read_on, Begins}
 use Rattle.record.specs.Table.{Slot, takes, slot_put, slot_clear, left_at}
-use Rattle.record.specs.declared.number.Number.{Number}
-use Rattle.record.specs.declared.number.Number.TheVariants.{Value, Cut, Broken}
-use Rattle.record.specs.declared.restore.Walk.{Walk}
-use Rattle.record.specs.declared.restore.Walk.TheVariants.{Past, Short, Fault}
+use Rattle.record.specs.declared.number.Cursor.{Cursor}
+use Rattle.record.specs.declared.number.Unread.{Unread}
+use Rattle.record.specs.declared.number.Unread.TheVariants.{Cut, Broken}
+use Rattle.record.specs.declared.restore.Stop.{Stop}
+use Rattle.record.specs.declared.restore.Stop.TheVariants.{Short, Fault}
 use Rattle.record.specs.declared.table.Part.{Part}
 use Rattle.record.specs.declared.table.Place.{Place}
 
@@ -69,24 +68,24 @@ device_checks s = phase Stopped s ∷ (fresh s, Eexist) ∷ []
 
 -- ---- what the walk of the code answers. The table is ps, and where it has read all it was to read, it goes on at part k; s is the state then.
 
-unfoldable pub tells : List Part → List ℕ → ℕ → Walk → List ℕ → Judged
-tells ps bytes k (Past c) s = judged (left_at ps k 0) (drop c.at bytes) s
-tells ps bytes k (Short p b) s = short (left_at ps p.part p.word) b.sum b.unit
-tells ps bytes k (Fault e) s = faulty e
+unfoldable pub tells : List Part → List ℕ → ℕ → Result Cursor Stop → List ℕ → Judged
+tells ps bytes k (Ok c) s = judged (left_at ps k 0) (drop c.at bytes) s
+tells ps bytes k (Err (Short p b)) s = short (left_at ps p.part p.word) b.sum b.unit
+tells ps bytes k (Err (Fault e)) s = faulty e
 
-unfoldable pub leaves : List Part → List ℕ → ℕ → Walk → List ℕ → List ℕ
-leaves ps bytes k (Past c) s = kept (left_at ps k 0) (drop c.at bytes) s
-leaves ps bytes k (Short p b) s = s
-leaves ps bytes k (Fault e) s = s
+unfoldable pub leaves : List Part → List ℕ → ℕ → Result Cursor Stop → List ℕ → List ℕ
+leaves ps bytes k (Ok c) s = kept (left_at ps k 0) (drop c.at bytes) s
+leaves ps bytes k (Err (Short p b)) s = s
+leaves ps bytes k (Err (Fault e)) s = s
 
 -- a number that the bytes cut can be read on
-abbrev pub Resumed : Walk → Type 0
-Resumed (Past c) = Unit {0}
-Resumed (Short p b) = Begins b
-Resumed (Fault e) = Unit {0}
+abbrev pub Resumed : Result Cursor Stop → Type 0
+Resumed (Ok c) = Unit {0}
+Resumed (Err (Short p b)) = Begins b
+Resumed (Err (Fault e)) = Unit {0}
 
 -- the walk from a place of the table and of the bytes: s was before it, s' is after it
-pub record Loads (ps : List Part) (bytes : List ℕ) (from : Place) (at k : ℕ) (s s' : List ℕ) (r : Walk) : Type 0 where
+pub record Loads (ps : List Part) (bytes : List ℕ) (from : Place) (at k : ℕ) (s s' : List ℕ) (r : Result Cursor Stop) : Type 0 where
   pub same : length s' ≡ length s
   pub resumes : Resumed r
   pub come : tells ps bytes k r s' ≡ judged (left_at ps from.part from.word) (drop at bytes) s
@@ -102,14 +101,13 @@ pub record Takes (t bytes : List ℕ) (r : Refusal) (s : List ℕ) : Type 0 wher
   pub refusal : r ≡ fault_of (restored t bytes)
   pub state : s ≡ loaded_state t (restored t bytes)
 
--- the answer for a number that is not read
-unfoldable pub unread_at : Place → Number → Walk
-unread_at p (Value v c) = Fault Ebadmsg
+-- where the walk stops if the number at p is not read
+unfoldable pub unread_at : Place → Unread → Stop
 unread_at p (Cut b) = Short p b
 unread_at p Broken = Fault Ebadmsg
 
 -- after the last value
-unfoldable pub end_of : List ℕ → Walk → Refusal
-end_of bytes (Past c) = cond (ltb c.at (length bytes)) (Refuse Ebadmsg) None
-end_of bytes (Short p b) = Refuse Ebadmsg
-end_of bytes (Fault e) = Refuse e
+unfoldable pub end_of : List ℕ → Result Cursor Stop → Refusal
+end_of bytes (Ok c) = cond (ltb c.at (length bytes)) (Err Ebadmsg) (Ok tt)
+end_of bytes (Err (Short p b)) = Err Ebadmsg
+end_of bytes (Err (Fault e)) = Err e

@@ -4,4 +4,5 @@
 pub mod number;
 pub mod restore;
 pub mod save;
+pub mod shape;
 pub mod table;

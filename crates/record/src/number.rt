@@ -5,13 +5,13 @@ ghost use Rattle.model.specs.Record.{encode};
 ghost use Rattle.record.specs.Numbers.{Begins, Resumes, Ends, read_on, told};
 
 // A place in some bytes.
-#[derive(Clone, Copy)]
+#[derive(Clone, Copy, Debug, PartialEq, Eq)]
 pub struct Cursor {
     pub at: usize,
 }
 
 // The groups of a number that are read so far: the sum they make, and what a 1 of the next group counts.
-#[derive(Clone, Copy)]
+#[derive(Clone, Copy, Debug, PartialEq, Eq)]
 pub struct Begun {
     pub sum: u32,
     pub unit: u32,
@@ -20,10 +20,16 @@ pub struct Begun {
 // What a 1 of the fifth group counts: no group follows it.
 const LAST_UNIT: u32 = 0x1000_0000;
 
-// What reading a number finds: its value and the place after it; that the bytes end before the number does; or no number.
-#[derive(Clone, Copy)]
-pub enum Number {
-    Value(u32, Cursor),
+// A number that is read: its value, and the place after it.
+#[derive(Clone, Copy, Debug, PartialEq, Eq)]
+pub struct Number {
+    pub value: u32,
+    pub next: Cursor,
+}
+
+// Why a number is not read: the bytes end before it does, or it is ill-formed.
+#[derive(Clone, Copy, Debug, PartialEq, Eq)]
+pub enum Unread {
     Cut(Begun),
     Broken,
 }
@@ -31,54 +37,57 @@ pub enum Number {
 // ---- reading
 
 // The last group `b` of a number. The form is the shortest, so a group after the first is not 0; the number is at most 2^32 - 1.
-fn last_group(begun: Begun, b: u32, next: usize) -> Number
+fn last_group(begun: Begun, b: u32, next: usize) -> Result<Number, Unread>
     requires { Begins begun × (b < 128) }
     ensures { Ends begun b next result }
 {
     if (b == 0) & (begun.unit != 1) {
-        return Number::Broken;
+        return Err(Unread::Broken);
     }
     if (begun.unit == LAST_UNIT) & (b >= 16) {
-        return Number::Broken;
+        return Err(Unread::Broken);
     }
-    Number::Value(begun.sum + begun.unit * b, Cursor { at: next })
+    Ok(Number {
+        value: begun.sum + begun.unit * b,
+        next: Cursor { at: next },
+    })
 }
 
 // The number whose first groups are read, the others from a place on.
-pub fn read_on(src: &[u8], c: Cursor, first: Begun) -> Number
-    requires { Begins first }
-    ensures { (told src.now result ≡ read_on first.sum first.unit (drop c.at src.now)) × Resumes result }
+pub fn read_on(src: &[u8], from: Cursor, mut begun: Begun) -> Result<Number, Unread>
+    requires { Begins begun }
+    ensures { (told src.now result ≡ read_on begun.sum begun.unit (drop from.at src.now)) × Resumes result }
 {
-    let mut begun = first;
-    let mut i = c.at;
-    while i < src.len() {
-        let b = wide(src[i]);
+    for i in from.at..src.len() {
+        let b = u32::from(src[i]);
         if b < 128 {
             return last_group(begun, b, i + 1);
         }
         if begun.unit == LAST_UNIT {
-            return Number::Broken;
+            return Err(Unread::Broken);
         }
         begun = Begun {
             sum: begun.sum + begun.unit * (b - 128),
             unit: begun.unit * 128,
         };
-        i += 1;
     }
-    Number::Cut(begun)
+    Err(Unread::Cut(begun))
 }
 
 // The number at a place. Most have one group.
-pub fn read_number(src: &[u8], c: Cursor) -> Number
-    ensures { (told src.now result ≡ read_on 0 1 (drop c.at src.now)) × Resumes result }
+pub fn read_number(src: &[u8], from: Cursor) -> Result<Number, Unread>
+    ensures { (told src.now result ≡ read_on 0 1 (drop from.at src.now)) × Resumes result }
 {
-    let at = c.at;
+    let at = from.at;
     if src.len() <= at {
-        return Number::Cut(Begun { sum: 0, unit: 1 });
+        return Err(Unread::Cut(Begun { sum: 0, unit: 1 }));
     }
-    let b = wide(src[at]);
+    let b = u32::from(src[at]);
     if b < 128 {
-        return Number::Value(b, Cursor { at: at + 1 });
+        return Ok(Number {
+            value: b,
+            next: Cursor { at: at + 1 },
+        });
     }
     read_on(
         src,
@@ -90,31 +99,19 @@ pub fn read_number(src: &[u8], c: Cursor) -> Number
     )
 }
 
-fn wide(x: u8) -> u32
-    ensures { (result ≡ x) × (result < 256) }
-{
-    x as u32
-}
-
 // ---- writing
 
 // How many groups `v` has.
 pub fn number_length(v: u32) -> usize
     ensures { (result ≡ length (encode v)) × (1 ≤ result) × (result ≤ 5) }
 {
-    if v < 0x80 {
-        return 1;
+    match v {
+        0..0x80 => 1,
+        0x80..0x4000 => 2,
+        0x4000..0x20_0000 => 3,
+        0x20_0000..0x1000_0000 => 4,
+        _ => 5,
     }
-    if v < 0x4000 {
-        return 2;
-    }
-    if v < 0x20_0000 {
-        return 3;
-    }
-    if v < 0x1000_0000 {
-        return 4;
-    }
-    5
 }
 
 // Writes the groups of `v` from `at` on, and answers the place after them.
@@ -126,7 +123,7 @@ pub fn write_number(buf: &mut [u8], at: usize, v: u32) -> usize
     let mut i = at;
     while x >= 128 {
         buf[i] = (x % 128 + 128) as u8;
-        x = x / 128;
+        x /= 128;
         i += 1;
     }
     buf[i] = x as u8;

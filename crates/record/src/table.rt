@@ -1,21 +1,22 @@
 // The record as a table of parts, in the order of the record: for each run of words its place, its length, how a word is shown and which words may be there.
 ghost use Rattle.std.specs.Prelude.{◌≡◌, true, ◌+◌, ◌*◌, ◌^◌, ◌≤◌, ◌<◌, length, get_or};
-ghost use Rattle.model.specs.Layout.{state_length, most_vcpus, word};
+ghost use Rattle.model.specs.Words.{spread};
+ghost use Rattle.model.specs.Layout.{state_length, most_vcpus};
 ghost use Rattle.model.specs.Record.{spi_words, spis};
 ghost use Rattle.model.specs.Demands.{Stopped};
-ghost use Rattle.model.specs.Sound.{block_bits, bank_bits, last_bank_bits};
-ghost use Rattle.record.specs.Table.{field_bits, field_least, least_of, shown, hidden, fixed, plain, slot, takes, row_of, blank, header_part, distributor_parts, bank_rows, bank_parts, vcpu_parts, interrupt_part, parts, slots, Sized, ShapeOf, Inside};
+ghost use Rattle.record.specs.Table.{field_bits, field_least, least_of, shown, hidden, fixed, slot_at, slot_set, words_in, takes, row_of, blank, header_part, distributor_parts, bank_rows, bank_parts, vcpu_parts, interrupt_part, slots, table_of, ShapeOf, Inside};
 
+use crate::shape::Shape;
 use model::layout::{
-    AFFINITY, BPR0, COUNT, CTLR, EDGES, ENABLES, FRAME_STATUS, GROUP, INITIALISED, LEAST_BPR0,
-    LEAST_BPR1, PMR, ROUTES, STATUS, VCPUS,
+    AFFINITY, BPR0, BPR1, COUNT, CTLR, EDGES, ENABLES, FRAME_STATUS, GROUP, INITIALISED,
+    LEAST_BPR0, LEAST_BPR1, PMR, ROUTES, STATUS, State, VCPUS,
 };
 use model::values::{
     AFFINITY_BITS, APR_BITS, BPR_BITS, EDGE_BITS, FLAG_BITS, GICD_CTLR_BITS, GICD_CTLR_FIXED,
     ICC_CTLR_BITS, ICC_CTLR_FIXED, LAST_EDGE_BITS, LAST_FLAG_BITS, ONE_BIT, PMR_BITS, PPI_BITS,
     PRIORITY_BITS, RECORD_VERSION, ROUTE_BITS, STATUSR_BITS,
 };
-use state::{VcpuIndex, block_at, ids_below, spi_bank_at};
+use state::{Vcpu, block_at, ids_below, spi_bank_at, store_of_interrupts};
 use words::{config_of, edges_of, is_within};
 
 // A block of words whose fields differ: a vCPU's block, a bank of SPIs, the bank of the SPI word 31, of which the interrupts from 1020 on do not exist.
@@ -53,190 +54,213 @@ pub struct Part {
 }
 
 // A place in a record: the number of a part, and of a word of it.
-#[derive(Clone, Copy)]
+#[derive(Clone, Copy, Debug, PartialEq, Eq)]
 pub struct Place {
     pub part: usize,
     pub word: usize,
 }
 
-// What fixes the table: the interrupt count and the number of vCPUs.
-#[derive(Clone, Copy)]
-pub struct Shape {
-    pub count: usize,
-    pub vcpus: usize,
-}
-
 // ---- the words that may be there
 
-// The bits of word `f` of a vCPU's block.
-fn vcpu_bits(f: usize) -> u32
-    ensures { result ≡ get_or block_bits f 0 }
-{
-    match f {
-        0 | 1 | 2 | 3 => FLAG_BITS,
-        4 => PPI_BITS,
-        5 | 6 | 7 | 8 | 9 | 10 | 11 | 12 => PRIORITY_BITS,
-        13 => EDGE_BITS,
-        16 => AFFINITY_BITS,
-        17 | 25 | 26 => ONE_BIT,
-        18 => STATUSR_BITS,
-        19 => PMR_BITS,
-        20 => ICC_CTLR_BITS,
-        21 | 22 => BPR_BITS,
-        23 | 24 => APR_BITS,
-        _ => 0,
-    }
-}
+// The bits of the words of a vCPU's block, of a bank of SPIs and of the bank of the SPI word 31.
+static VCPU_BITS: [u32; 27] = [
+    FLAG_BITS, // GICR_IGROUPR0
+    FLAG_BITS, // GICR_ISENABLER0
+    FLAG_BITS, // the latch
+    FLAG_BITS, // GICR_ISACTIVER0
+    PPI_BITS, // the lines
+    PRIORITY_BITS, // GICR_IPRIORITYR0
+    PRIORITY_BITS,
+    PRIORITY_BITS,
+    PRIORITY_BITS,
+    PRIORITY_BITS,
+    PRIORITY_BITS,
+    PRIORITY_BITS,
+    PRIORITY_BITS, // GICR_IPRIORITYR7
+    EDGE_BITS, // GICR_ICFGR0
+    0,
+    0,
+    AFFINITY_BITS, // the affinity
+    ONE_BIT, // the running mark
+    STATUSR_BITS, // GICR_STATUSR
+    PMR_BITS, // ICC_PMR_EL1
+    ICC_CTLR_BITS, // ICC_CTLR_EL1
+    BPR_BITS, // ICC_BPR0_EL1
+    BPR_BITS, // ICC_BPR1_EL1
+    APR_BITS, // ICC_AP0R0_EL1
+    APR_BITS, // ICC_AP1R0_EL1
+    ONE_BIT, // ICC_IGRPEN0_EL1
+    ONE_BIT, // ICC_IGRPEN1_EL1
+];
 
-// The bits of word `f` of a bank of SPIs.
-fn bank_bits(f: usize) -> u32
-    ensures { result ≡ get_or bank_bits f 0 }
-{
-    match f {
-        0 | 1 | 2 | 3 | 4 => FLAG_BITS,
-        5 | 6 | 7 | 8 | 9 | 10 | 11 | 12 => PRIORITY_BITS,
-        13 | 14 => EDGE_BITS,
-        _ => 0,
-    }
-}
+static BANK_BITS: [u32; 15] = [
+    FLAG_BITS, // GICD_IGROUPR
+    FLAG_BITS, // GICD_ISENABLER
+    FLAG_BITS, // the latch
+    FLAG_BITS, // GICD_ISACTIVER
+    FLAG_BITS, // the lines
+    PRIORITY_BITS, // GICD_IPRIORITYR, eight words
+    PRIORITY_BITS,
+    PRIORITY_BITS,
+    PRIORITY_BITS,
+    PRIORITY_BITS,
+    PRIORITY_BITS,
+    PRIORITY_BITS,
+    PRIORITY_BITS,
+    EDGE_BITS, // GICD_ICFGR, two words
+    EDGE_BITS,
+];
 
-// The bits of word `f` of the bank of the SPI word 31.
-fn last_bank_bits(f: usize) -> u32
-    ensures { result ≡ get_or last_bank_bits f 0 }
-{
-    match f {
-        0 | 1 | 2 | 3 | 4 => LAST_FLAG_BITS,
-        5 | 6 | 7 | 8 | 9 | 10 | 11 => PRIORITY_BITS,
-        12 => 0,
-        13 => EDGE_BITS,
-        14 => LAST_EDGE_BITS,
-        _ => 0,
-    }
-}
+static LAST_BANK_BITS: [u32; 15] = [
+    LAST_FLAG_BITS, // GICD_IGROUPR
+    LAST_FLAG_BITS, // GICD_ISENABLER
+    LAST_FLAG_BITS, // the latch
+    LAST_FLAG_BITS, // GICD_ISACTIVER
+    LAST_FLAG_BITS, // the lines
+    PRIORITY_BITS, // GICD_IPRIORITYR, eight words
+    PRIORITY_BITS,
+    PRIORITY_BITS,
+    PRIORITY_BITS,
+    PRIORITY_BITS,
+    PRIORITY_BITS,
+    PRIORITY_BITS,
+    0, // of the interrupts 1020 to 1023
+    EDGE_BITS, // GICD_ICFGR, two words
+    LAST_EDGE_BITS,
+];
 
-// The bits of word `f` of a block.
-fn bits_of(block: Block, f: usize) -> u32
-    ensures { result ≡ field_bits block f }
-{
-    match block {
-        Block::Vcpu => vcpu_bits(f),
-        Block::Bank => bank_bits(f),
-        Block::LastBank => last_bank_bits(f),
+impl Block {
+    // The bits that word `f` may have.
+    #[tactic(auto, unfolding(crate::specs::Table::field_bits))]
+    fn bits(self, f: usize) -> u32
+        ensures { result ≡ field_bits self f }
+    {
+        let bits: &[u32] = match self {
+            Block::Vcpu => &VCPU_BITS,
+            Block::Bank => &BANK_BITS,
+            Block::LastBank => &LAST_BANK_BITS,
+        };
+        bits.get(f).copied().unwrap_or(0)
     }
-}
 
-// The least value of word `f` of a block: BPR0 and BPR1 have one.
-fn least_of(block: Block, f: usize) -> u32
-    ensures { result ≡ field_least block f }
-{
-    match block {
-        Block::Vcpu => match f {
-            21 => LEAST_BPR0,
-            22 => LEAST_BPR1,
+    // The least value of word `f`: BPR0 and BPR1 have one.
+    #[tactic(auto, unfolding(crate::specs::Table::field_least))]
+    fn least(self, f: usize) -> u32
+        ensures { result ≡ field_least self f }
+    {
+        match (self, f) {
+            (Block::Vcpu, BPR0) => LEAST_BPR0,
+            (Block::Vcpu, BPR1) => LEAST_BPR1,
             _ => 0,
-        },
-        Block::Bank => 0,
-        Block::LastBank => 0,
+        }
     }
 }
 
 // ---- words as they are shown
 
-// A word as it is: of latches the latch itself, not pending, in which the line of a level interrupt counts too.
-pub fn word_at(words: &[u32], i: usize) -> u32
-    requires { i < length words.now }
-    ensures { result ≡ word words.now i }
+// Sixteen edge flags as they are shown. Out of line, so that the loop over the words of a part stays short.
+#[inline(never)]
+fn shown_edges(word: u32) -> u32
+    ensures { result ≡ spread word }
 {
-    words[i]
+    config_of(word)
 }
 
-// What the word at a place is shown as.
-pub fn value_at(s: &[u32], kind: Kind, at: usize) -> u32
-    requires { (length s.now ≡ state_length) × (at < state_length) × (shown kind (word s.now at) < 2 ^ 32) }
-    ensures { result ≡ shown kind (word s.now at) }
-{
-    match kind {
-        Kind::Exactly(x) => x,
-        Kind::SetUp => word_at(s, at),
-        Kind::Within(_) => word_at(s, at),
-        Kind::Fields(_) => word_at(s, at),
-        Kind::Above(base, _) => base + word_at(s, at),
-        Kind::Edges(_) => config_of(word_at(s, at)),
+impl Kind {
+    // What a word is shown as.
+    #[tactic(auto, unfolding(crate::specs::Table::shown))]
+    pub fn value_of(self, word: u32) -> u32
+        requires { shown self word < 2 ^ 32 }
+        ensures { result ≡ shown self word }
+    {
+        match self {
+            Kind::Exactly(x) => x,
+            Kind::SetUp | Kind::Within(_) | Kind::Fields(_) => word,
+            Kind::Above(base, _) => base + word,
+            Kind::Edges(_) => shown_edges(word),
+        }
+    }
+
+    // The word that is shown as a value.
+    #[tactic(auto, unfolding(crate::specs::Table::hidden))]
+    pub fn word_of(self, value: u32) -> u32
+        ensures { result ≡ hidden self value }
+    {
+        match self {
+            Kind::Exactly(_) | Kind::SetUp | Kind::Within(_) | Kind::Fields(_) => value,
+            Kind::Above(base, _) => value.saturating_sub(base),
+            Kind::Edges(_) => edges_of(value),
+        }
+    }
+
+    // Word `f` of a fresh device: the least that may be there.
+    #[tactic(auto, unfolding(crate::specs::Table::least_of))]
+    fn fresh_word(self, f: usize) -> u32
+        ensures { result ≡ least_of self f }
+    {
+        match self {
+            Kind::Fields(block) => block.least(f),
+            _ => 0,
+        }
+    }
+
+    // Whether the set-up fixes a number: nothing is stored.
+    #[tactic(auto, unfolding(crate::specs::Table::fixed))]
+    fn is_fixed(self) -> bool
+        ensures { result ≡ fixed self }
+    {
+        matches!(self, Kind::Exactly(_) | Kind::SetUp)
     }
 }
 
-// Whether some device of the target's set-up shows `x` at a place, which is word `f` of its block.
-pub fn is_taken(s: &[u32], kind: Kind, at: usize, f: usize, x: u32) -> bool
-    requires { (length s.now ≡ state_length) × (at < state_length) }
-    ensures { result ≡ takes s.now (slot at kind f) x }
-{
-    match kind {
-        Kind::Exactly(n) => x == n,
-        Kind::SetUp => x == word_at(s, at),
-        Kind::Within(mask) => is_within(x, mask),
-        Kind::Fields(block) => is_within(x, bits_of(block, f)) & (least_of(block, f) <= x),
-        Kind::Above(base, mask) => {
-            if x < base {
-                return false;
+impl Part {
+    // Its words.
+    pub fn words(self, s: &State) -> &[u32]
+        requires { Inside self }
+        ensures { result.now ≡ words_in s.now self }
+    {
+        let start = self.base + self.first;
+        &s[start..start + self.len]
+    }
+
+    // Whether some device of the set-up of `s` shows `x` at word `j`.
+    #[tactic(auto, unfolding(crate::specs::Table::takes))]
+    pub fn takes(self, s: &State, j: usize, x: u32) -> bool
+        requires { Inside self × (j < self.len) }
+        ensures { result ≡ takes s.now (slot_at self j) x }
+    {
+        let f = self.first + j;
+        match self.kind {
+            Kind::Exactly(n) => x == n,
+            Kind::SetUp => x == s[self.base + f],
+            Kind::Within(mask) => is_within(x, mask),
+            Kind::Fields(block) => is_within(x, block.bits(f)) & (block.least(f) <= x),
+            Kind::Above(base, mask) => x >= base && is_within(x - base, mask),
+            Kind::Edges(block) => {
+                let w = edges_of(x);
+                (config_of(w) == x) & is_within(w, block.bits(f))
             }
-            is_within(x - base, mask)
-        }
-        Kind::Edges(block) => {
-            let w = edges_of(x);
-            (config_of(w) == x) & is_within(w, bits_of(block, f))
         }
     }
-}
 
-// The word that is shown as `x`.
-pub fn word_shown(kind: Kind, x: u32) -> u32
-    ensures { result ≡ hidden kind x }
-{
-    match kind {
-        Kind::Exactly(_) => x,
-        Kind::SetUp => x,
-        Kind::Within(_) => x,
-        Kind::Fields(_) => x,
-        Kind::Above(base, _) => {
-            if x < base {
-                return 0;
-            }
-            x - base
+    // Stores word `j`, unless the set-up fixes it. The block or bank of the part is lent on as `&mut`.
+    #[tactic(auto, unfolding(crate::specs::Table::slot_set))]
+    pub fn store(self, s: &mut State, j: usize, word: u32)
+        requires { Inside self × (j < self.len) }
+        ensures { s.new ≡ slot_set s.old (slot_at self j) word }
+    {
+        if !self.kind.is_fixed() {
+            let end = self.first + self.len;
+            store_of_interrupts(s, self.base, end, self.first + j, word);
         }
-        Kind::Edges(_) => edges_of(x),
     }
-}
 
-// The word of a fresh device: the least that may be there.
-pub fn fresh_word(kind: Kind, f: usize) -> u32
-    ensures { result ≡ least_of kind f }
-{
-    match kind {
-        Kind::Fields(block) => least_of(block, f),
-        _ => 0,
-    }
-}
-
-// Whether the set-up fixes a number: nothing is stored.
-pub fn is_fixed(kind: Kind) -> bool
-    ensures { result ≡ fixed kind }
-{
-    match kind {
-        Kind::Exactly(_) => true,
-        Kind::SetUp => true,
-        _ => false,
-    }
-}
-
-// Whether words are shown as they are.
-pub fn is_plain(kind: Kind) -> bool
-    ensures { result ≡ plain kind }
-{
-    match kind {
-        Kind::SetUp => true,
-        Kind::Within(_) => true,
-        Kind::Fields(_) => true,
-        _ => false,
+    // Word `j` of a fresh device.
+    pub fn fresh_word(self, j: usize) -> u32
+        requires { Inside self × (j < self.len) }
+        ensures { result ≡ least_of self.kind (self.first + j) }
+    {
+        self.kind.fresh_word(self.first + j)
     }
 }
 
@@ -255,6 +279,7 @@ fn row(base: usize, first: usize, len: usize, kind: Kind) -> Part
 }
 
 // The header: version; count and number of vCPUs; each affinity.
+#[tactic(auto, unfolding(crate::specs::Table::affinity_part))]
 fn header_part(k: usize) -> Part
     requires { k < 2 + most_vcpus }
     ensures { (result ≡ header_part k) × Inside result }
@@ -262,7 +287,7 @@ fn header_part(k: usize) -> Part
     match k {
         0 => row(0, INITIALISED, 1, Kind::Exactly(RECORD_VERSION)),
         1 => row(0, COUNT, 2, Kind::SetUp),
-        _ => row(block_at(VcpuIndex(k - 2)), AFFINITY, 1, Kind::SetUp),
+        _ => row(block_at(Vcpu { index: k - 2 }), AFFINITY, 1, Kind::SetUp),
     }
 }
 
@@ -288,6 +313,7 @@ fn bank_row(base: usize, block: Block, i: usize) -> Part
     }
 }
 
+#[tactic(auto, unfolding(crate::specs::Table::bank_parts))]
 fn bank_part(w: usize, i: usize) -> Part
     requires { (w < 32) × (i < 2) }
     ensures { (result ≡ get_or (bank_parts w) i blank) × Inside result }
@@ -300,9 +326,10 @@ fn bank_part(w: usize, i: usize) -> Part
 }
 
 // A vCPU: STATUSR, its bank without the edge flags, its CPU interface.
-fn vcpu_part(v: VcpuIndex, i: usize) -> Part
-    requires { (v.0 < most_vcpus) × (i < 5) }
-    ensures { (result ≡ get_or (vcpu_parts v.0) i blank) × Inside result }
+#[tactic(auto, unfolding(crate::specs::Table::vcpu_parts))]
+fn vcpu_part(v: Vcpu, i: usize) -> Part
+    requires { i < 5 }
+    ensures { (result ≡ get_or (vcpu_parts v.index) i blank) × Inside result }
 {
     let base = block_at(v);
     match i {
@@ -315,6 +342,7 @@ fn vcpu_part(v: VcpuIndex, i: usize) -> Part
 }
 
 // The banks of the SPI words, the routes, the vCPUs.
+#[tactic(auto, unfolding(crate::specs::Table::interrupt_part))]
 fn interrupt_part(count: usize, i: usize) -> Part
     requires { (64 ≤ count) × (count ≤ 1024) × (i < 2 * spi_words count + 1 + 5 * most_vcpus) }
     ensures { (result ≡ interrupt_part count i) × Inside result }
@@ -327,22 +355,7 @@ fn interrupt_part(count: usize, i: usize) -> Part
         return row(ROUTES, 0, spi_count(count), Kind::Within(ROUTE_BITS));
     }
     let j = i - (banks + 1);
-    vcpu_part(VcpuIndex(j / 5), j % 5)
-}
-
-// Part `k` of the table.
-pub fn part_at(shape: Shape, k: usize) -> Part
-    requires { Sized shape.count shape.vcpus × (k < length (parts shape.count shape.vcpus)) }
-    ensures { (result ≡ get_or (parts shape.count shape.vcpus) k blank) × Inside result }
-{
-    let header = 2 + shape.vcpus;
-    if k < header {
-        return header_part(k);
-    }
-    if k < header + 2 {
-        return distributor_part(k - header);
-    }
-    interrupt_part(shape.count, k - (header + 2))
+    vcpu_part(Vcpu { index: j / 5 }, j % 5)
 }
 
 // How many SPIs there are.
@@ -353,29 +366,48 @@ fn spi_count(count: usize) -> usize
     ids_below(count as u32) - 32
 }
 
-// How many parts the table has.
-pub fn part_count(shape: Shape) -> usize
-    requires { Sized shape.count shape.vcpus }
-    ensures { result ≡ length (parts shape.count shape.vcpus) }
-{
-    5 + 6 * shape.vcpus + 2 * (shape.count / 32 - 1)
-}
+impl Shape {
+    // The shape of a stopped device.
+    #[tactic(auto, using(crate::proofs::Order::numbers))]
+    pub fn of(s: &State) -> Shape
+        requires { Stopped s.now }
+        ensures { ShapeOf s.now result }
+    {
+        Shape {
+            count: s[COUNT] as usize,
+            vcpus: s[VCPUS] as usize,
+        }
+    }
 
-// How many values the record has.
-pub fn value_count(shape: Shape) -> usize
-    requires { Sized shape.count shape.vcpus }
-    ensures { (result ≡ length (slots shape.count shape.vcpus)) × (result ≤ 1642) }
-{
-    5 + 23 * shape.vcpus + 15 * (shape.count / 32 - 1) + spi_count(shape.count)
-}
+    // Part `k` of the table.
+    #[tactic(auto, using(crate::proofs::Order::parts_by_number))]
+    pub fn part_at(self, k: usize) -> Part
+        requires { k < length (table_of self) }
+        ensures { (result ≡ get_or (table_of self) k blank) × Inside result }
+    {
+        let header = 2 + self.vcpus;
+        if k < header {
+            return header_part(k);
+        }
+        if k < header + 2 {
+            return distributor_part(k - header);
+        }
+        interrupt_part(self.count, k - (header + 2))
+    }
 
-// The shape of a stopped device.
-pub fn shape_of(s: &[u32]) -> Shape
-    requires { Stopped s.now }
-    ensures { ShapeOf s.now result }
-{
-    Shape {
-        count: s[COUNT] as usize,
-        vcpus: s[VCPUS] as usize,
+    // How many parts the table has.
+    #[tactic(auto, using(crate::proofs::Order::sizes))]
+    pub fn part_count(self) -> usize
+        ensures { result ≡ length (table_of self) }
+    {
+        5 + 6 * self.vcpus + 2 * (self.count / 32 - 1)
+    }
+
+    // How many values the record has.
+    #[tactic(auto, using(crate::proofs::Order::sizes))]
+    pub fn value_count(self) -> usize
+        ensures { (result ≡ length (slots self.count self.vcpus)) × (result ≤ 1642) }
+    {
+        5 + 23 * self.vcpus + 15 * (self.count / 32 - 1) + spi_count(self.count)
     }
 }

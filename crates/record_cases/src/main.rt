@@ -1,9 +1,7 @@
 // Runs save and restore, and prints their answers, the bytes that save fills and the words that restore changes. The file stdout holds what document 01 gives for each.
 #![tactic(auto)]
 
-ghost use Rattle.std.specs.Prelude.{◌≤◌};
-
-use report::{say, say_answer, say_changed, say_decimal, say_signed};
+use report::{say, say_changed, say_decimal, say_read, say_written};
 use state::{Mpidr, VcpuIndex};
 use std::io;
 use std::io::Write;
@@ -12,28 +10,15 @@ use std::io::Write;
 
 // The bytes from one place to before another, each as two hex digits.
 fn say_bytes(out: &mut impl Write, bytes: &[u8], from: usize, to: usize) -> io::Result<()> {
-    for i in from..to {
-        if i < bytes.len() {
-            write!(out, " {:02x}", bytes[i])?;
-        }
+    for byte in bytes.iter().take(to).skip(from) {
+        write!(out, " {byte:02x}")?;
     }
     Ok(())
 }
 
-// 1 for a byte that is not a5.
-fn is_filled(x: u8) -> usize
-    ensures { result ≤ 1 }
-{
-    if x == 0xa5 { 0 } else { 1 }
-}
-
 // How many bytes are not a5. A buffer holds nothing else before it is lent, and no record here has one.
 fn filled(buf: &[u8]) -> usize {
-    let mut n: usize = 0;
-    for x in buf {
-        n += is_filled(*x);
-    }
-    n
+    buf.iter().filter(|x| **x != 0xa5).count()
 }
 
 // ---- devices
@@ -41,14 +26,14 @@ fn filled(buf: &[u8]) -> usize {
 // A device before initialising: vCPU 0 has affinity 0.
 fn added(count: u64) -> [u32; 1760] {
     let mut s = [0u32; 1760];
-    calls::make(&mut s);
-    calls::set_attribute(&mut s, 3, 0, count);
-    calls::add_vcpu(&mut s, Mpidr(0));
+    let _ = calls::make(&mut s);
+    let _ = calls::set_attribute(&mut s, 3, 0, count);
+    let _ = calls::add_vcpu(&mut s, Mpidr(0));
     s
 }
 
 fn initialise(s: &mut [u32; 1760]) {
-    calls::set_attribute(s, 4, 0, 0);
+    let _ = calls::set_attribute(s, 4, 0, 0);
 }
 
 fn fresh(count: u64) -> [u32; 1760] {
@@ -58,19 +43,19 @@ fn fresh(count: u64) -> [u32; 1760] {
 }
 
 fn run(s: &mut [u32; 1760], on: bool) {
-    calls::set_running(s, VcpuIndex(0), on);
+    let _ = calls::set_running(s, VcpuIndex(0), on);
 }
 
 // The level of SPI 2a.
 fn line(s: &mut [u32; 1760], level: bool) {
-    calls::change_line(s, VcpuIndex(0), 0x2a, level);
+    let _ = calls::change_line(s, VcpuIndex(0), 0x2a, level);
 }
 
 // ---- save
 
 // A save: the answer, how many bytes of the buffer are filled, and those from 66 on.
 fn fill(out: &mut impl Write, s: &[u32; 1760], buf: &mut [u8]) -> io::Result<()> {
-    say_signed(out, calls::fill(s, buf))?;
+    say_written(out, calls::fill(s, buf))?;
     say(out, b", filled ")?;
     say_decimal(out, filled(buf) as u64)?;
     say(out, b":")?;
@@ -80,13 +65,17 @@ fn fill(out: &mut impl Write, s: &[u32; 1760], buf: &mut [u8]) -> io::Result<()>
 
 // A save that hands the front part back: the result, the part's length, the part, and how many bytes of the buffer are filled.
 fn hand_back(out: &mut impl Write, s: &[u32; 1760], buf: &mut [u8]) -> io::Result<()> {
-    let mut result: i64 = 1;
-    let front = calls::save(s, buf, &mut result);
-    say_signed(out, result)?;
-    say(out, b", front ")?;
-    say_decimal(out, front.len() as u64)?;
-    say(out, b":")?;
-    say_bytes(out, front, 0, 80)?;
+    match calls::save(s, buf) {
+        Ok(front) => {
+            let length = front.len();
+            write!(out, " {length}, front {length}:")?;
+            say_bytes(out, front, 0, 80)?;
+        }
+        Err(e) => {
+            say_written(out, Err(e))?;
+            say(out, b", front 0:")?;
+        }
+    }
     say(out, b"; filled ")?;
     say_decimal(out, filled(buf) as u64)?;
     say(out, b"\n")
@@ -145,24 +134,21 @@ fn fresh_record() -> [u8; 84] {
 // The answer, and the words that changed.
 fn restore(out: &mut impl Write, s: &mut [u32; 1760], bytes: &[u8]) -> io::Result<()> {
     let before = *s;
-    say_signed(out, calls::restore(s, bytes))?;
+    say_written(out, calls::restore(s, bytes))?;
     say_changed(out, s, &before)?;
     say(out, b";")
 }
 
-// A row is a length, a place, and the six bytes that stand from there on.
-fn replace(b: &mut [u8; 84], row: [u8; 8]) {
-    let at = row[1] as usize;
-    for i in 0..6 {
-        if at < 78 {
-            b[at + i] = row[2 + i];
-        }
-    }
-}
+// An edit of a record: how many bytes are restored, a place, and the six bytes that stand from there on.
+type Edit = (u8, u8, [u8; 6]);
 
-fn edited(row: [u8; 8]) -> [u8; 84] {
+// The fresh record with six bytes replaced.
+fn edited(at: u8, bytes: [u8; 6]) -> [u8; 84] {
     let mut b = fresh_record();
-    replace(&mut b, row);
+    let at = usize::from(at);
+    if let Some(place) = b.get_mut(at..at + 6) {
+        place.copy_from_slice(&bytes);
+    }
     b
 }
 
@@ -173,93 +159,94 @@ fn restore_front(
     b: &[u8],
     length: usize,
 ) -> io::Result<()> {
-    if length <= b.len() {
-        restore(out, s, &b[..length])?;
+    match b.get(..length) {
+        Some(front) => restore(out, s, front),
+        None => Ok(()),
     }
-    Ok(())
 }
 
-// A restore of a row's edit of the fresh record into a fresh device.
-fn edit(out: &mut impl Write, row: [u8; 8]) -> io::Result<()> {
+// A restore of an edit of the fresh record into a fresh device.
+fn restore_edit(out: &mut impl Write, edit: Edit) -> io::Result<()> {
     let mut s = fresh(64);
-    let b = edited(row);
-    restore_front(out, &mut s, &b, row[0] as usize)
+    let (length, at, bytes) = edit;
+    let b = edited(at, bytes);
+    restore_front(out, &mut s, &b, usize::from(length))
 }
 
-fn each_edit(out: &mut impl Write, table: &[[u8; 8]]) -> io::Result<()> {
-    for row in table {
-        edit(out, *row)?;
+fn each_edit(out: &mut impl Write, table: &[Edit]) -> io::Result<()> {
+    for edit in table {
+        restore_edit(out, *edit)?;
     }
     Ok(())
 }
 
 // A line of edits.
-fn edits(out: &mut impl Write, name: &[u8], table: &[[u8; 8]]) -> io::Result<()> {
+fn edits(out: &mut impl Write, name: &[u8], table: &[Edit]) -> io::Result<()> {
     say(out, name)?;
     say(out, b":")?;
     each_edit(out, table)?;
     say(out, b"\n")
 }
 
-const WHOLE: [[u8; 8]; 5] = [
-    [76, 0, 0x01, 0x40, 0x01, 0x00, 0x50, 0x00],
-    [76, 0, 0x01, 0x40, 0x01, 0x00, 0x53, 0x0f],
-    [76, 67, 0x78, 0x82, 0x08, 0x02, 0x03, 0x00],
-    [80, 71, 0x03, 0xff, 0xff, 0xff, 0xff, 0x0f],
-    [77, 72, 0x80, 0x08, 0x00, 0x00, 0x00, 0x00],
+const WHOLE: [Edit; 5] = [
+    (76, 0, [0x01, 0x40, 0x01, 0x00, 0x50, 0x00]),
+    (76, 0, [0x01, 0x40, 0x01, 0x00, 0x53, 0x0f]),
+    (76, 67, [0x78, 0x82, 0x08, 0x02, 0x03, 0x00]),
+    (80, 71, [0x03, 0xff, 0xff, 0xff, 0xff, 0x0f]),
+    (77, 72, [0x80, 0x08, 0x00, 0x00, 0x00, 0x00]),
 ];
 
-const CUT: [[u8; 8]; 4] = [
-    [0, 0, 0x01, 0x40, 0x01, 0x00, 0x50, 0x00],
-    [75, 0, 0x01, 0x40, 0x01, 0x00, 0x50, 0x00],
-    [69, 0, 0x01, 0x40, 0x01, 0x00, 0x50, 0x00],
-    [77, 0, 0x01, 0x40, 0x01, 0x00, 0x50, 0x00],
+const CUT: [Edit; 4] = [
+    (0, 0, [0x01, 0x40, 0x01, 0x00, 0x50, 0x00]),
+    (75, 0, [0x01, 0x40, 0x01, 0x00, 0x50, 0x00]),
+    (69, 0, [0x01, 0x40, 0x01, 0x00, 0x50, 0x00]),
+    (77, 0, [0x01, 0x40, 0x01, 0x00, 0x50, 0x00]),
 ];
 
-const ILL_FORMED: [[u8; 8]; 5] = [
-    [77, 0, 0x80, 0x00, 0x40, 0x01, 0x00, 0x50],
-    [77, 0, 0x81, 0x00, 0x40, 0x01, 0x00, 0x50],
-    [77, 72, 0x80, 0x00, 0x00, 0x00, 0x00, 0x00],
-    [80, 72, 0xff, 0xff, 0xff, 0xff, 0x10, 0x00],
-    [81, 72, 0x80, 0x80, 0x80, 0x80, 0x80, 0x01],
+const ILL_FORMED: [Edit; 5] = [
+    (77, 0, [0x80, 0x00, 0x40, 0x01, 0x00, 0x50]),
+    (77, 0, [0x81, 0x00, 0x40, 0x01, 0x00, 0x50]),
+    (77, 72, [0x80, 0x00, 0x00, 0x00, 0x00, 0x00]),
+    (80, 72, [0xff, 0xff, 0xff, 0xff, 0x10, 0x00]),
+    (81, 72, [0x80, 0x80, 0x80, 0x80, 0x80, 0x01]),
 ];
 
-const HEADER: [[u8; 8]; 5] = [
-    [76, 0, 0x00, 0x40, 0x01, 0x00, 0x50, 0x00],
-    [76, 0, 0x02, 0x40, 0x01, 0x00, 0x50, 0x00],
-    [76, 0, 0x01, 0x60, 0x01, 0x00, 0x50, 0x00],
-    [76, 0, 0x01, 0x40, 0x02, 0x00, 0x50, 0x00],
-    [76, 0, 0x01, 0x40, 0x01, 0x01, 0x50, 0x00],
+const HEADER: [Edit; 5] = [
+    (76, 0, [0x00, 0x40, 0x01, 0x00, 0x50, 0x00]),
+    (76, 0, [0x02, 0x40, 0x01, 0x00, 0x50, 0x00]),
+    (76, 0, [0x01, 0x60, 0x01, 0x00, 0x50, 0x00]),
+    (76, 0, [0x01, 0x40, 0x02, 0x00, 0x50, 0x00]),
+    (76, 0, [0x01, 0x40, 0x01, 0x01, 0x50, 0x00]),
 ];
 
 // In the distributor's part.
-const SHARED: [[u8; 8]; 5] = [
-    [76, 0, 0x01, 0x40, 0x01, 0x00, 0x54, 0x00],
-    [76, 5, 0x10, 0x00, 0x00, 0x00, 0x00, 0x00],
-    [76, 11, 0x04, 0x00, 0x00, 0x00, 0x00, 0x00],
-    [76, 19, 0x01, 0x00, 0x00, 0x00, 0x00, 0x00],
-    [79, 21, 0x80, 0x80, 0x80, 0x08, 0x00, 0x00],
+const SHARED: [Edit; 5] = [
+    (76, 0, [0x01, 0x40, 0x01, 0x00, 0x54, 0x00]),
+    (76, 5, [0x10, 0x00, 0x00, 0x00, 0x00, 0x00]),
+    (76, 11, [0x04, 0x00, 0x00, 0x00, 0x00, 0x00]),
+    (76, 19, [0x01, 0x00, 0x00, 0x00, 0x00, 0x00]),
+    (79, 21, [0x80, 0x80, 0x80, 0x08, 0x00, 0x00]),
 ];
 
 // In the vCPU's part.
-const OWN: [[u8; 8]; 6] = [
-    [76, 58, 0x01, 0x00, 0x00, 0x00, 0x00, 0x00],
-    [76, 67, 0x04, 0x80, 0x08, 0x02, 0x03, 0x00],
-    [76, 67, 0x00, 0x81, 0x08, 0x02, 0x03, 0x00],
-    [76, 67, 0x00, 0x80, 0x08, 0x01, 0x03, 0x00],
-    [76, 67, 0x00, 0x80, 0x08, 0x02, 0x02, 0x00],
-    [76, 70, 0x02, 0x03, 0x00, 0x00, 0x00, 0x02],
+const OWN: [Edit; 6] = [
+    (76, 58, [0x01, 0x00, 0x00, 0x00, 0x00, 0x00]),
+    (76, 67, [0x04, 0x80, 0x08, 0x02, 0x03, 0x00]),
+    (76, 67, [0x00, 0x81, 0x08, 0x02, 0x03, 0x00]),
+    (76, 67, [0x00, 0x80, 0x08, 0x01, 0x03, 0x00]),
+    (76, 67, [0x00, 0x80, 0x08, 0x02, 0x02, 0x00]),
+    (76, 70, [0x02, 0x03, 0x00, 0x00, 0x00, 0x02]),
 ];
 
 // Two faults: that of the earlier number counts.
-const ORDERS: [[u8; 8]; 7] = [
-    [75, 0, 0x02, 0x40, 0x01, 0x00, 0x50, 0x00],
-    [77, 0, 0x02, 0x40, 0x01, 0x00, 0x50, 0x00],
-    [77, 0, 0x02, 0x80, 0x00, 0x01, 0x00, 0x50],
-    [77, 0, 0x80, 0x00, 0x40, 0x02, 0x00, 0x50],
-    [77, 70, 0x01, 0x80, 0x00, 0x00, 0x00, 0x00],
-    [77, 72, 0x80, 0x00, 0x00, 0x02, 0x00, 0x00],
-    [77, 70, 0x02, 0x03, 0x00, 0x00, 0x00, 0x02],
+const ORDERS: [Edit; 7] = [
+    (75, 0, [0x02, 0x40, 0x01, 0x00, 0x50, 0x00]),
+    (77, 0, [0x02, 0x40, 0x01, 0x00, 0x50, 0x00]),
+    (77, 0, [0x02, 0x80, 0x00, 0x01, 0x00, 0x50]),
+    (77, 0, [0x80, 0x00, 0x40, 0x02, 0x00, 0x50]),
+    (77, 70, [0x01, 0x80, 0x00, 0x00, 0x00, 0x00]),
+    (77, 72, [0x80, 0x00, 0x00, 0x02, 0x00, 0x00]),
+    (77, 70, [0x02, 0x03, 0x00, 0x00, 0x00, 0x02]),
 ];
 
 fn whole(out: &mut impl Write) -> io::Result<()> {
@@ -345,12 +332,20 @@ fn targets(out: &mut impl Write) -> io::Result<()> {
 fn round_trip(out: &mut impl Write, name: &[u8], s: &[u32; 1760]) -> io::Result<()> {
     let mut buf = [0u8; 96];
     let mut t = fresh(64);
-    let mut result: i64 = 1;
-    let front = calls::save(s, &mut buf, &mut result);
     say(out, name)?;
     say(out, b":")?;
-    say_signed(out, result)?;
-    say_signed(out, calls::restore(&mut t, front))?;
+    let restored = match calls::save(s, &mut buf) {
+        Ok(front) => {
+            let length = front.len();
+            write!(out, " {length}")?;
+            calls::restore(&mut t, front)
+        }
+        Err(e) => {
+            say_written(out, Err(e))?;
+            calls::restore(&mut t, &[])
+        }
+    };
+    say_written(out, restored)?;
     say_changed(out, &t, s)?;
     say(out, b"; record")?;
     say_bytes(out, &buf, 6, 28)?;
@@ -360,15 +355,15 @@ fn round_trip(out: &mut impl Write, name: &[u8], s: &[u32; 1760]) -> io::Result<
 // ISPENDR of the SPIs 20-3f by attribute, and as the guest reads it.
 fn pending(out: &mut impl Write, s: &mut [u32; 1760]) -> io::Result<()> {
     say(out, b"; ISPENDR")?;
-    say_answer(out, calls::get_attribute(s, 1, 0x204))?;
+    say_read(out, calls::get_attribute(s, 1, 0x204))?;
     run(s, true);
-    say_answer(out, calls::read_distributor(s, VcpuIndex(0), 0x204, 4))?;
+    say_read(out, calls::read_distributor(s, VcpuIndex(0), 0x204, 4))?;
     say(out, b"\n")
 }
 
 // A word of the distributor by attribute.
 fn put(s: &mut [u32; 1760], offset: u64, value: u64) {
-    calls::set_attribute(s, 1, offset, value);
+    let _ = calls::set_attribute(s, 1, offset, value);
 }
 
 // Count 64: SPI 2a is enabled and of group 1, and edge where its ICFGR says so. Its line is high.
@@ -402,7 +397,7 @@ fn large(out: &mut impl Write) -> io::Result<()> {
     let s = fresh(1024);
     let mut buf = [0u8; 1500];
     say(out, b"count 400:")?;
-    say_signed(out, calls::fill(&s, &mut buf))?;
+    say_written(out, calls::fill(&s, &mut buf))?;
     say(out, b";")?;
     say_bytes(out, &buf, 0, 7)?;
     say(out, b"\n")

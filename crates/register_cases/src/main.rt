@@ -1,7 +1,8 @@
 // Runs the guest's accesses to memory-mapped registers, line changes and attributes of every group that names registers, and prints their answers and the words that they change. The file stdout holds what document 01 gives for each.
 #![tactic(auto)]
 
-use report::{say, say_answer, say_changed, say_hex};
+use model::Errno;
+use report::{say, say_changed, say_hex, say_read};
 use state::{Mpidr, VcpuIndex};
 use std::io;
 use std::io::Write;
@@ -9,19 +10,18 @@ use std::io::Write;
 // ---- printing
 
 // A refusal, where a write or a set has one.
-fn say_refusal(out: &mut impl Write, r: i64) -> io::Result<()> {
-    if r != 0 {
-        say_answer(out, r)?;
+fn say_refusal(out: &mut impl Write, answer: Result<u32, Errno>) -> io::Result<()> {
+    match answer {
+        Ok(0) => Ok(()),
+        _ => say_read(out, answer),
     }
-    Ok(())
 }
 
 // A row's numbers.
 fn say_row(out: &mut impl Write, row: [u64; 4]) -> io::Result<()> {
-    say_hex(out, row[0])?;
-    say_hex(out, row[1])?;
-    say_hex(out, row[2])?;
-    say_hex(out, row[3])?;
+    for number in row {
+        say_hex(out, number)?;
+    }
     say(out, b":")
 }
 
@@ -30,28 +30,28 @@ fn say_row(out: &mut impl Write, row: [u64; 4]) -> io::Result<()> {
 // A device before initialising: the vCPUs 0, 1 and 2 have the affinities 1, 0 and abcd0f.
 fn added(count: u64) -> [u32; 1760] {
     let mut s = [0u32; 1760];
-    calls::make(&mut s);
-    calls::set_attribute(&mut s, 3, 0, count);
-    calls::add_vcpu(&mut s, Mpidr(1));
-    calls::add_vcpu(&mut s, Mpidr(0));
-    calls::add_vcpu(&mut s, Mpidr(0x00ab_cd0f));
+    let _ = calls::make(&mut s);
+    let _ = calls::set_attribute(&mut s, 3, 0, count);
+    let _ = calls::add_vcpu(&mut s, Mpidr(1));
+    let _ = calls::add_vcpu(&mut s, Mpidr(0));
+    let _ = calls::add_vcpu(&mut s, Mpidr(0x00ab_cd0f));
     s
 }
 
 // That device initialised, with f in each STATUSR.
 fn device(count: u64) -> [u32; 1760] {
     let mut s = added(count);
-    calls::set_attribute(&mut s, 4, 0, 0);
-    calls::set_attribute(&mut s, 1, 0x10, 0xf);
-    calls::set_attribute(&mut s, 5, 0x1_0000_0010, 0xf);
-    calls::set_attribute(&mut s, 5, 0x10, 0xf);
-    calls::set_attribute(&mut s, 5, 0x00ab_cd0f_0000_0010, 0xf);
+    let _ = calls::set_attribute(&mut s, 4, 0, 0);
+    let _ = calls::set_attribute(&mut s, 1, 0x10, 0xf);
+    let _ = calls::set_attribute(&mut s, 5, 0x1_0000_0010, 0xf);
+    let _ = calls::set_attribute(&mut s, 5, 0x10, 0xf);
+    let _ = calls::set_attribute(&mut s, 5, 0x00ab_cd0f_0000_0010, 0xf);
     s
 }
 
 // vCPU 1 runs, or stops. It makes every access but those of the table of refusals.
 fn run(s: &mut [u32], on: bool) {
-    calls::set_running(s, VcpuIndex(1), on);
+    let _ = calls::set_running(s, VcpuIndex(1), on);
 }
 
 // ---- calls
@@ -63,14 +63,14 @@ enum Place {
     Frame(usize),
 }
 
-fn read(s: &[u32], at: Place, offset: u64, size: u64) -> i64 {
+fn read(s: &[u32], at: Place, offset: u64, size: u64) -> Result<u32, Errno> {
     match at {
         Place::Distributor => calls::read_distributor(s, VcpuIndex(1), offset, size),
         Place::Frame(f) => calls::read_frame(s, VcpuIndex(1), VcpuIndex(f), offset, size),
     }
 }
 
-fn write(s: &mut [u32], at: Place, offset: u64, size: u64, value: u64) -> i64 {
+fn write(s: &mut [u32], at: Place, offset: u64, size: u64, value: u64) -> Result<u32, Errno> {
     match at {
         Place::Distributor => calls::write_distributor(s, VcpuIndex(1), offset, size, value),
         Place::Frame(f) => calls::write_frame(s, VcpuIndex(1), VcpuIndex(f), offset, size, value),
@@ -199,10 +199,11 @@ fn guest_case(
     row: [u64; 4],
 ) -> io::Result<[u32; 1760]> {
     let mut s = device(count);
+    let [first, word, offset, value] = row;
     run(&mut s, true);
-    write(&mut s, at, row[0], 4, row[1]);
-    say_refusal(out, write(&mut s, at, row[2], 4, row[3]))?;
-    say_answer(out, read(&s, at, row[2], 4))?;
+    let _ = write(&mut s, at, first, 4, word);
+    say_refusal(out, write(&mut s, at, offset, 4, value))?;
+    say_read(out, read(&s, at, offset, 4))?;
     run(&mut s, false);
     Ok(s)
 }
@@ -216,31 +217,32 @@ fn attribute_case(
     row: [u64; 4],
 ) -> io::Result<[u32; 1760]> {
     let mut s = device(count);
-    calls::set_attribute(&mut s, group, high | row[0], row[1]);
+    let [first, word, offset, value] = row;
+    let _ = calls::set_attribute(&mut s, group, high | first, word);
     say_refusal(
         out,
-        calls::set_attribute(&mut s, group, high | row[2], row[3]),
+        calls::set_attribute(&mut s, group, high | offset, value),
     )?;
-    say_answer(out, calls::get_attribute(&s, group, high | row[2]))?;
+    say_read(out, calls::get_attribute(&s, group, high | offset))?;
     Ok(s)
 }
 
-// At counts 64, 96, 992 and 1024, with the words changed at 1024: in group 1 first by a guest, and by attribute.
-fn counts_row(out: &mut impl Write, group: u64, row: [u64; 4]) -> io::Result<()> {
-    let before = device(1024);
-    if group == 1 {
-        guest_case(out, 64, Place::Distributor, row)?;
-        guest_case(out, 96, Place::Distributor, row)?;
-        guest_case(out, 992, Place::Distributor, row)?;
-        let s = guest_case(out, 1024, Place::Distributor, row)?;
-        say_changed(out, &s, &before)?;
-        say(out, b";")?;
-    }
+// By a guest at counts 64, 96, 992 and 1024, with the words changed at 1024.
+fn guest_counts(out: &mut impl Write, row: [u64; 4]) -> io::Result<()> {
+    guest_case(out, 64, Place::Distributor, row)?;
+    guest_case(out, 96, Place::Distributor, row)?;
+    guest_case(out, 992, Place::Distributor, row)?;
+    let s = guest_case(out, 1024, Place::Distributor, row)?;
+    say_changed(out, &s, &device(1024))
+}
+
+// The same by attribute.
+fn attribute_counts(out: &mut impl Write, group: u64, row: [u64; 4]) -> io::Result<()> {
     attribute_case(out, 64, group, 0, row)?;
     attribute_case(out, 96, group, 0, row)?;
     attribute_case(out, 992, group, 0, row)?;
     let s = attribute_case(out, 1024, group, 0, row)?;
-    say_changed(out, &s, &before)
+    say_changed(out, &s, &device(1024))
 }
 
 // In the frames 0, 1 and 2, by a guest and by attribute, with the words changed.
@@ -439,22 +441,21 @@ fn access_row(
     row: [u64; 4],
 ) -> io::Result<()> {
     let mut s = device(count);
+    let [first, offset, size, value] = row;
     run(&mut s, true);
-    write(&mut s, at, row[0], 4, 0x1020_3043);
+    let _ = write(&mut s, at, first, 4, 0x1020_3043);
     let before = s;
-    say_refusal(out, write(&mut s, at, row[1], row[2], row[3]))?;
-    say_answer(out, read(&s, at, row[1], row[2]))?;
-    say_answer(out, read(&s, at, row[0], 4))?;
+    say_refusal(out, write(&mut s, at, offset, size, value))?;
+    say_read(out, read(&s, at, offset, size))?;
+    say_read(out, read(&s, at, first, 4))?;
     say_changed(out, &s, &before)?;
     run(&mut s, false);
-    if (row[2] == 4) & (row[1] < 0x1_0000_0000) {
+    if size == 4 && offset < 0x1_0000_0000 {
         let after = s;
+        let number = high | offset;
         say(out, b";")?;
-        say_answer(out, calls::get_attribute(&s, group, high | row[1]))?;
-        say_answer(
-            out,
-            calls::set_attribute(&mut s, group, high | row[1], row[3]),
-        )?;
+        say_read(out, calls::get_attribute(&s, group, number))?;
+        say_read(out, calls::set_attribute(&mut s, group, number, value))?;
         say_changed(out, &s, &after)?;
     }
     Ok(())
@@ -488,12 +489,13 @@ const SYSTEM: [[u64; 4]; 19] = [
 // What the first value reads back as; the answer to the second, what is read then, and the words that it changed.
 fn system_row(out: &mut impl Write, row: [u64; 4]) -> io::Result<()> {
     let mut s = device(64);
-    let number = (row[0] << 32) | row[1];
-    say_refusal(out, calls::set_attribute(&mut s, 6, number, row[2]))?;
+    let [high, low, first, second] = row;
+    let number = (high << 32) | low;
+    say_refusal(out, calls::set_attribute(&mut s, 6, number, first))?;
     let before = s;
-    say_answer(out, calls::get_attribute(&s, 6, number))?;
-    say_answer(out, calls::set_attribute(&mut s, 6, number, row[3]))?;
-    say_answer(out, calls::get_attribute(&s, 6, number))?;
+    say_read(out, calls::get_attribute(&s, 6, number))?;
+    say_read(out, calls::set_attribute(&mut s, 6, number, second))?;
+    say_read(out, calls::get_attribute(&s, 6, number))?;
     say_changed(out, &s, &before)
 }
 
@@ -599,7 +601,71 @@ const CHANGES: [[u64; 4]; 9] = [
     [0x0, 0x400, 0x0, 0xffff_ffff_ffff_ffff],
 ];
 
-// What the rows of a table are; the last three are run on four devices.
+// What a row asks of each of four devices.
+#[derive(Clone, Copy)]
+enum Request {
+    Guest,
+    Attribute,
+    Changes,
+}
+
+// What one device answers to such a row, and the words changed.
+fn request_case(
+    out: &mut impl Write,
+    request: Request,
+    state: [u32; 1760],
+    row: [u64; 4],
+) -> io::Result<()> {
+    let mut s = state;
+    match request {
+        Request::Guest => guest_answers(out, &mut s, row)?,
+        Request::Attribute => attribute_answers(out, &mut s, row)?,
+        Request::Changes => change_answers(out, &mut s, row)?,
+    }
+    say_changed(out, &s, &state)
+}
+
+fn guest_answers(out: &mut impl Write, s: &mut [u32; 1760], row: [u64; 4]) -> io::Result<()> {
+    let [vcpu, frame, offset, value] = row;
+    let v = VcpuIndex(vcpu as usize);
+    let frame = VcpuIndex(frame as usize);
+    say_read(out, calls::read_distributor(s, v, offset, 4))?;
+    say_read(out, calls::write_distributor(s, v, offset, 4, value))?;
+    say_read(out, calls::read_frame(s, v, frame, offset, 4))?;
+    say_read(out, calls::write_frame(s, v, frame, offset, 4, value))
+}
+
+fn attribute_answers(out: &mut impl Write, s: &mut [u32; 1760], row: [u64; 4]) -> io::Result<()> {
+    let [group, high, low, value] = row;
+    let number = (high << 32) | low;
+    say_read(out, calls::get_attribute(s, group, number))?;
+    say_read(out, calls::set_attribute(s, group, number, value))
+}
+
+fn change_answers(out: &mut impl Write, s: &mut [u32; 1760], row: [u64; 4]) -> io::Result<()> {
+    let [v, id, w, other] = row.map(|number| number as usize);
+    say_read(out, calls::change_line(s, VcpuIndex(v), id, true))?;
+    say_read(out, calls::change_line(s, VcpuIndex(w), other, true))
+}
+
+// The four devices: not sound; not initialised; of count 1024, and vCPU 1 runs; stopped.
+fn request_row(out: &mut impl Write, request: Request, row: [u64; 4]) -> io::Result<()> {
+    let mut unsound = device(64);
+    unsound[15] = 1;
+    request_case(out, request, unsound, row)?;
+    say(out, b";")?;
+    request_case(out, request, added(64), row)?;
+    say(out, b";")?;
+    let mut running = device(1024);
+    run(&mut running, true);
+    request_case(out, request, running, row)?;
+    say(out, b";")?;
+    request_case(out, request, device(64), row)
+}
+
+// ---- the rows of a table
+
+// What the rows of a table are.
 #[derive(Clone, Copy)]
 enum Kind {
     Distributor,
@@ -607,72 +673,24 @@ enum Kind {
     Accesses,
     FrameAccesses,
     System,
-    Guest,
-    Attributes,
-    Changes,
+    Requests(Request),
 }
 
-// What one device answers to such a row, and the words changed.
-fn phase_case(
-    out: &mut impl Write,
-    kind: Kind,
-    state: [u32; 1760],
-    row: [u64; 4],
-) -> io::Result<()> {
-    let mut s = state;
-    match kind {
-        Kind::Guest => {
-            let v = VcpuIndex(row[0] as usize);
-            let frame = VcpuIndex(row[1] as usize);
-            say_answer(out, calls::read_distributor(&s, v, row[2], 4))?;
-            say_answer(out, calls::write_distributor(&mut s, v, row[2], 4, row[3]))?;
-            say_answer(out, calls::read_frame(&s, v, frame, row[2], 4))?;
-            say_answer(out, calls::write_frame(&mut s, v, frame, row[2], 4, row[3]))?;
-        }
-        Kind::Attributes => {
-            let number = (row[1] << 32) | row[2];
-            say_answer(out, calls::get_attribute(&s, row[0], number))?;
-            say_answer(out, calls::set_attribute(&mut s, row[0], number, row[3]))?;
-        }
-        _ => {
-            say_answer(
-                out,
-                calls::change_line(&mut s, VcpuIndex(row[0] as usize), row[1] as usize, true),
-            )?;
-            say_answer(
-                out,
-                calls::change_line(&mut s, VcpuIndex(row[2] as usize), row[3] as usize, true),
-            )?;
-        }
-    }
-    say_changed(out, &s, &state)
-}
-
-// ---- the rows of a table
-
-// A line: the name, the row, and its answers. The four devices: not sound; not initialised; of count 1024, and vCPU 1 runs; stopped.
+// A line: the name, the row, and its answers.
 fn row_case(out: &mut impl Write, name: &[u8], kind: Kind, row: [u64; 4]) -> io::Result<()> {
     say(out, name)?;
     say_row(out, row)?;
     match kind {
-        Kind::Distributor => counts_row(out, 1, row)?,
-        Kind::Lines => counts_row(out, 7, row)?,
+        Kind::Distributor => {
+            guest_counts(out, row)?;
+            say(out, b";")?;
+            attribute_counts(out, 1, row)?
+        }
+        Kind::Lines => attribute_counts(out, 7, row)?,
         Kind::Accesses => access_row(out, 1024, Place::Distributor, 1, 0, row)?,
         Kind::FrameAccesses => access_row(out, 64, Place::Frame(2), 5, 0x00ab_cd0f_0000_0000, row)?,
         Kind::System => system_row(out, row)?,
-        _ => {
-            let mut unsound = device(64);
-            unsound[15] = 1;
-            phase_case(out, kind, unsound, row)?;
-            say(out, b";")?;
-            phase_case(out, kind, added(64), row)?;
-            say(out, b";")?;
-            let mut running = device(1024);
-            run(&mut running, true);
-            phase_case(out, kind, running, row)?;
-            say(out, b";")?;
-            phase_case(out, kind, device(64), row)?;
-        }
+        Kind::Requests(request) => request_row(out, request, row)?,
     }
     say(out, b"\n")
 }
@@ -708,12 +726,12 @@ fn step(out: &mut impl Write, s: &mut [u32; 1760], name: &[u8], call: Call) -> i
     run(s, false);
     say(out, name)?;
     say(out, b":")?;
-    say_answer(out, r)?;
-    say_answer(out, calls::get_attribute(s, 7, 0x20))?;
-    say_answer(out, calls::get_attribute(s, 1, 0x204))?;
+    say_read(out, r)?;
+    say_read(out, calls::get_attribute(s, 7, 0x20))?;
+    say_read(out, calls::get_attribute(s, 1, 0x204))?;
     run(s, true);
-    say_answer(out, read(s, Place::Distributor, 0x204, 4))?;
-    say_answer(out, read(s, Place::Distributor, 0x284, 4))?;
+    say_read(out, read(s, Place::Distributor, 0x204, 4))?;
+    say_read(out, read(s, Place::Distributor, 0x284, 4))?;
     run(s, false);
     say(out, b"\n")
 }
@@ -813,22 +831,27 @@ fn lines_by_attribute(out: &mut impl Write, s: &mut [u32; 1760]) -> io::Result<(
 }
 
 // The answer of a call; then of the three vCPUs the lines, the latches, and what a guest reads as pending.
-fn say_private(out: &mut impl Write, s: &mut [u32], name: &[u8], r: i64) -> io::Result<()> {
+fn say_private(
+    out: &mut impl Write,
+    s: &mut [u32],
+    name: &[u8],
+    r: Result<u32, Errno>,
+) -> io::Result<()> {
     say(out, name)?;
     say(out, b":")?;
-    say_answer(out, r)?;
-    say_answer(out, calls::get_attribute(s, 7, 0x1_0000_0000))?;
-    say_answer(out, calls::get_attribute(s, 7, 0x0))?;
-    say_answer(out, calls::get_attribute(s, 7, 0x00ab_cd0f_0000_0000))?;
+    say_read(out, r)?;
+    say_read(out, calls::get_attribute(s, 7, 0x1_0000_0000))?;
+    say_read(out, calls::get_attribute(s, 7, 0x0))?;
+    say_read(out, calls::get_attribute(s, 7, 0x00ab_cd0f_0000_0000))?;
     say(out, b";")?;
-    say_answer(out, calls::get_attribute(s, 5, 0x1_0001_0200))?;
-    say_answer(out, calls::get_attribute(s, 5, 0x1_0200))?;
-    say_answer(out, calls::get_attribute(s, 5, 0x00ab_cd0f_0001_0200))?;
+    say_read(out, calls::get_attribute(s, 5, 0x1_0001_0200))?;
+    say_read(out, calls::get_attribute(s, 5, 0x1_0200))?;
+    say_read(out, calls::get_attribute(s, 5, 0x00ab_cd0f_0001_0200))?;
     say(out, b";")?;
     run(s, true);
-    say_answer(out, read(s, Place::Frame(0), 0x1_0200, 4))?;
-    say_answer(out, read(s, Place::Frame(1), 0x1_0200, 4))?;
-    say_answer(out, read(s, Place::Frame(2), 0x1_0200, 4))?;
+    say_read(out, read(s, Place::Frame(0), 0x1_0200, 4))?;
+    say_read(out, read(s, Place::Frame(1), 0x1_0200, 4))?;
+    say_read(out, read(s, Place::Frame(2), 0x1_0200, 4))?;
     run(s, false);
     say(out, b"\n")
 }
@@ -849,7 +872,7 @@ fn private_lines(out: &mut impl Write) -> io::Result<()> {
     say_private(out, &mut s, b"PPI 20 of vCPU 1, line down", down)?;
     let last = calls::set_running(&mut s, VcpuIndex(2), true);
     say_private(out, &mut s, b"vCPU 2 runs, attributes are refused", last)?;
-    calls::set_running(&mut s, VcpuIndex(2), false);
+    let _ = calls::set_running(&mut s, VcpuIndex(2), false);
     let first = calls::set_running(&mut s, VcpuIndex(0), true);
     say_private(out, &mut s, b"vCPU 0 runs, attributes are refused", first)
 }
@@ -900,9 +923,19 @@ fn refusals(out: &mut impl Write) -> io::Result<()> {
         out,
         b"refusals, each device not sound; not initialised; running; stopped\n",
     )?;
-    rows(out, b"guest", Kind::Guest, &GUEST)?;
-    rows(out, b"attribute", Kind::Attributes, &ATTRIBUTES)?;
-    rows(out, b"line changes", Kind::Changes, &CHANGES)
+    rows(out, b"guest", Kind::Requests(Request::Guest), &GUEST)?;
+    rows(
+        out,
+        b"attribute",
+        Kind::Requests(Request::Attribute),
+        &ATTRIBUTES,
+    )?;
+    rows(
+        out,
+        b"line changes",
+        Kind::Requests(Request::Changes),
+        &CHANGES,
+    )
 }
 
 fn system_registers(out: &mut impl Write) -> io::Result<()> {
@@ -915,8 +948,18 @@ fn system_registers(out: &mut impl Write) -> io::Result<()> {
         out,
         b"group 6 and unknown groups, each device not sound; not initialised; running; stopped\n",
     )?;
-    rows(out, b"attribute", Kind::Attributes, &GROUP_6)?;
-    rows(out, b"attribute", Kind::Attributes, &UNKNOWN_GROUPS)
+    rows(
+        out,
+        b"attribute",
+        Kind::Requests(Request::Attribute),
+        &GROUP_6,
+    )?;
+    rows(
+        out,
+        b"attribute",
+        Kind::Requests(Request::Attribute),
+        &UNKNOWN_GROUPS,
+    )
 }
 
 fn main(rt: HostRuntime) -> io::Result<()> {

@@ -1,6 +1,6 @@
 -- Which interrupts of a word a view has: all, none, or the 28 before ID 1020.
 use Prim.Native.Nat.{ℕ, ◌+◌, ◌*◌, ◌/◌, ◌%◌, ◌^◌, ◌<◌}
-use mathlib.Core.Path.{◌≡◌, ap, ◌∙◌}
+use mathlib.Core.Path.{◌≡◌, refl, sym, ap}
 use mathlib.Core.Bool as bool
 use mathlib.Core.Bool.{Bool, true, false, not, ◌&&◌}
 use mathlib.Core.List.{List}
@@ -8,8 +8,6 @@ use native.Mathlib.Omega.{arith}
 use borrow.Author.Tests.{lt-ltb, ltb-true, le-leb}
 use lib.Dec.{leb, ltb}
 use lib.Bits.{bit_and, and_mask}
-use mir.Syntax.{w64}
-use mir.Val.{Fits}
 use Rattle.model.specs.Words.{bit, gather}
 use Rattle.model.specs.Layout.{count}
 use Rattle.model.specs.Interrupts.{is_private, is_spi}
@@ -18,7 +16,6 @@ use Rattle.model.specs.declared.View.{View}
 use Rattle.model.specs.declared.View.TheVariants.{Distributor, Frame}
 use Rattle.model.proofs.Bits.{gather-same, gather-lt, bit-gather, bit-mod, bit-shift, word-is}
 use Rattle.model.proofs.Fields.{spi-within, within-spi, banks-most}
-use Rattle.model.proofs.Refused.{told-no, told-yes}
 use Rattle.model.proofs.Tests.{both, and-true, same_test}
 use Rattle.words.proofs.Expressions.{gathers, gathered, same_bits, ands, ones-from}
 use Rattle.registers.specs.Words.{flags_meant, priorities_meant, edges_meant}
@@ -26,16 +23,10 @@ use Rattle.registers.specs.Words.{flags_meant, priorities_meant, edges_meant}
 past-true : (a b : Bool) → (a && true && b) ≡ (a && b)
 past-true a b = ap (λ (t : Bool). t && b) (bool.and-true a)
 
--- ---- an interrupt of a view
-
-module _ (s : List ℕ) (x : View) (id : ℕ) where
-  pub has-distributor : (r : Bool) → r ≡ is_spi s id → x ≡ Distributor → r ≡ has s x id
-  unfolding has
-  has-distributor r e h = rw h e
-
-  pub has-frame : (v : ℕ) → x ≡ Frame v → ltb id 32 ≡ has s x id
-  unfolding has is_private
-  has-frame v h = rw h
+-- 32 flags are below 2 ^ 32
+flags-lt : (s : List ℕ) (x : View) (k : ℕ) → flags_meant s x 0 k < 2 ^ 32
+unfolding flags_meant
+flags-lt s x k = gather-lt 32 (λ j. has s x (32 * k + j) && leb 0 (32 * k + j))
 
 -- ---- where the count is a multiple of 32
 
@@ -66,32 +57,29 @@ module _ (s : List ℕ) (step : count s % 32 ≡ 0) where
     unfolding flags_meant
     all_from from = gather-same 32 _ _ (λ i m. ap (λ (t : Bool). t && leb from (32 * k + i)) (word-alike x k i l m))
 
-    module _ (r : Bool) (e : r ≡ has s x (32 * k)) where
-      pub none-meant : not r ≡ true → 0 ≡ flags_meant s x 0 k
-      unfolding gather
-      none-meant n = rw (all_from 0, told-no (has s x (32 * k)) r e n)
+    pub none-meant : has s x (32 * k) ≡ false → flags_meant s x 0 k ≡ 0
+    unfolding gather
+    none-meant e = rw (all_from 0, e)
 
-      pub last-meant : not r ≡ false → k ≡ 31 → 0x0fffffff ≡ flags_meant s x 0 k
-      unfolding gather
-      last-meant n q = rw (all_from 0, told-yes (has s x (32 * k)) r e n, q)
+    pub last-meant : has s x (32 * k) ≡ true → k ≡ 31 → flags_meant s x 0 k ≡ 0x0fffffff
+    unfolding gather
+    last-meant e q = rw (all_from 0, e, q)
 
-      pub all-meant : not r ≡ false → ¬ (k ≡ 31) → 0xffffffff ≡ flags_meant s x 0 k
-      unfolding gather
-      all-meant n q =
-          rw (all_from 0, told-yes (has s x (32 * k)) r e n)
-          (gather-same 32 (λ i. true) (λ i. ltb (32 * k + i) 1020 && leb 0 (32 * k + i)) (λ i m. rw (lt-ltb (32 * k + i) 1020 (omega (arith, banks-most x)), le-leb 0 (32 * k + i) (omega arith))))
+    pub all-meant : has s x (32 * k) ≡ true → k < 31 → flags_meant s x 0 k ≡ 0xffffffff
+    unfolding gather
+    all-meant e n = rw (all_from 0, e) (gather-same 32 (λ i. ltb (32 * k + i) 1020 && leb 0 (32 * k + i)) (λ i. true) (λ i m. rw (lt-ltb (32 * k + i) 1020 (omega arith), le-leb 0 (32 * k + i) (omega arith))))
 
-    -- those from `least` on
-    pub from-least : (least m : ℕ) → least < 32 → m ≡ flags_meant s x 0 k → k ≡ 0 → bit_and m (0xffffffff * 2 ^ least % 2 ^ 32) ≡ flags_meant s x least k
+    -- those from `from` on
+    pub from-least : (from : ℕ) → from < 32 → k ≡ 0 → flags_meant s x from k ≡ bit_and (flags_meant s x 0 k) (0xffffffff * 2 ^ from % 2 ^ 32)
     unfolding flags_meant
-    from-least least m h e z = gathers (same_bits at (ands (gathered _ e) (ones-from h)))
+    from-least from h z = sym (gathers (same_bits at (ands (gathered _ refl) (ones-from h))))
       where
-        at : (i : ℕ) → i < 32 → ((has s x (32 * k + i) && leb 0 (32 * k + i)) && leb least i) ≡ (has s x (32 * k + i) && leb least (32 * k + i))
-        at i j = let q : 32 * k + i ≡ i = omega arith in rw (q, le-leb 0 i (omega arith)) (past-true (has s x i) (leb least i))
+        at : (i : ℕ) → i < 32 → ((has s x (32 * k + i) && leb 0 (32 * k + i)) && leb from i) ≡ (has s x (32 * k + i) && leb from (32 * k + i))
+        at i j = let q : 32 * k + i ≡ i = omega arith in rw (q, le-leb 0 i (omega arith)) (past-true (has s x i) (leb from i))
 
-    pub from_all : (least m : ℕ) → least < 32 → m ≡ flags_meant s x 0 k → ¬ (k ≡ 0) → m ≡ flags_meant s x least k
+    pub from_all : (from : ℕ) → from < 32 → 0 < k → flags_meant s x from k ≡ flags_meant s x 0 k
     unfolding flags_meant
-    from_all least m h e n = e ∙ gather-same 32 _ _ (λ i j. rw (le-leb 0 (32 * k + i) (omega arith), le-leb least (32 * k + i) (omega arith)))
+    from_all from h n = gather-same 32 _ _ (λ i j. rw (le-leb 0 (32 * k + i) (omega arith), le-leb from (32 * k + i) (omega arith)))
 
   -- ---- four priorities
 
@@ -99,35 +87,41 @@ module _ (s : List ℕ) (step : count s % 32 ≡ 0) where
   unfolding priorities_meant
   fours x k = gather-same 32 _ _ (λ i m. four-alike x (4 * k + i / 8) (4 * k) (omega arith))
 
-  pub four-meant : (x : View) (k : ℕ) (r : Bool) → r ≡ has s x (4 * k) → r ≡ true → 0xffffffff ≡ priorities_meant s x k
+  pub four-meant : (x : View) (k : ℕ) → has s x (4 * k) ≡ true → priorities_meant s x k ≡ 0xffffffff
   unfolding gather
-  four-meant x k r e t = let h : has s x (4 * k) ≡ true = cc in rw (fours x k, h)
+  four-meant x k h = rw (fours x k, h)
 
-  pub no-four : (x : View) (k : ℕ) (r : Bool) → r ≡ has s x (4 * k) → r ≡ false → 0 ≡ priorities_meant s x k
+  pub no-four : (x : View) (k : ℕ) → has s x (4 * k) ≡ false → priorities_meant s x k ≡ 0
   unfolding gather
-  no-four x k r e t = let h : has s x (4 * k) ≡ false = cc in rw (fours x k, h)
+  no-four x k h = rw (fours x k, h)
 
   -- ---- sixteen edge flags: a half of the 32
 
-  module _ (x : View) (k m : ℕ) (e : m ≡ flags_meant s x 0 (k / 2)) where
-    half : (i : ℕ) → i < 32 → bit m i ≡ has s x (32 * (k / 2) + i)
+  module _ (x : View) (k : ℕ) where
+    half : (i : ℕ) → i < 32 → bit (flags_meant s x 0 (k / 2)) i ≡ has s x (32 * (k / 2) + i)
     unfolding flags_meant
-    half i l = rw (e, bit-gather 32 (λ j. has s x (32 * (k / 2) + j) && leb 0 (32 * (k / 2) + j)) i l, le-leb 0 (32 * (k / 2) + i) (omega arith)) (bool.and-true (has s x (32 * (k / 2) + i)))
+    half i l = rw (bit-gather 32 (λ j. has s x (32 * (k / 2) + j) && leb 0 (32 * (k / 2) + j)) i l, le-leb 0 (32 * (k / 2) + i) (omega arith)) (bool.and-true (has s x (32 * (k / 2) + i)))
 
-    pub low_half : k % 2 ≡ 0 → bit_and m 0xffff ≡ edges_meant s x k
+    pub low_half : k % 2 ≡ 0 → edges_meant s x k ≡ bit_and (flags_meant s x 0 (k / 2)) 0xffff
     unfolding edges_meant
-    low_half z = rw (and_mask m 16) (word-is 16 (m % 2 ^ 16) _ (omega arith) (λ i l. let q : 32 * (k / 2) + i ≡ 16 * k + i = omega arith in rw (bit-mod 16 m i l, half i (omega arith), q)))
+    low_half z =
+        let m : ℕ = flags_meant s x 0 (k / 2) in
+        sym (rw (and_mask m 16) (word-is 16 (m % 2 ^ 16) _ (omega arith) (λ i l. let q : 32 * (k / 2) + i ≡ 16 * k + i = omega arith in rw (bit-mod 16 m i l, half i (omega arith), q))))
 
-    pub high_half : ¬ (k % 2 ≡ 0) → m / 65536 ≡ edges_meant s x k
-    unfolding edges_meant flags_meant
+    pub high_half : k % 2 ≡ 1 → edges_meant s x k ≡ flags_meant s x 0 (k / 2) / 65536
+    unfolding edges_meant
     high_half z =
-        word-is 16 (m / 65536) _ (omega (arith, gather-lt 32 (λ j. has s x (32 * (k / 2) + j) && leb 0 (32 * (k / 2) + j))))
-        (λ i l. let q : 32 * (k / 2) + (16 + i) ≡ 16 * k + i = omega arith in rw (bit-shift m 16 i, half (16 + i) (omega arith), q))
+        let m : ℕ = flags_meant s x 0 (k / 2) in
+        sym (word-is 16 (m / 65536) _ (omega (arith, flags-lt s x (k / 2)))
+        (λ i l. let q : 32 * (k / 2) + (16 + i) ≡ 16 * k + i = omega arith in rw (bit-shift m 16 i, half (16 + i) (omega arith), q)))
 
--- ---- what the code multiplies fits the machine's width
+-- ---- the rules by which the code's masks are these
 
-pub id-fits : (x : View) (k : ℕ) → k < banks x → Fits w64 (32 * k)
-id-fits x k l = record { fits = omega (arith, banks-most x) }
+-- a view has at most 32 banks
+pub ruleset thirty_two = (banks-most, none-meant, last-meant, all-meant)
 
-pub four-fits : (x : View) (k : ℕ) → k < 8 * banks x → Fits w64 (4 * k)
-four-fits x k l = record { fits = omega (arith, banks-most x) }
+pub ruleset least = (from-least, from_all)
+
+pub ruleset four = (banks-most, four-meant, no-four)
+
+pub ruleset half_of = (low_half, high_half)

@@ -3,8 +3,6 @@ use Rattle.std.specs.Prelude.{ℕ, ◌+◌, ◌*◌, ◌/◌, ◌<◌, Bool, tru
 use Rattle.model.specs.Words.{bit, gather}
 use Rattle.model.specs.Layout.{word}
 use Rattle.model.specs.Registers.{has}
-use Rattle.model.specs.declared.By.{By}
-use Rattle.model.specs.declared.By.TheVariants.{Guest, Attribute}
 use Rattle.model.specs.declared.View.{View}
 use Rattle.model.specs.declared.Shown.{Shown}
 use Rattle.model.specs.declared.Shown.TheVariants.{Nothing, Flag, Pending}
@@ -25,11 +23,6 @@ priorities_meant s x k = gather 32 (λ i. has s x (4 * k + i / 8))
 -- sixteen edge flags
 unfoldable pub edges_meant : List ℕ → View → ℕ → ℕ
 edges_meant s x k = gather 16 (λ i. has s x (16 * k + i))
-
--- ---- the guest's, or the attribute's
-unfoldable pub theirs : {A : Type 0} → By → A → A → A
-theirs Guest g a = g
-theirs Attribute g a = a
 
 -- ---- words of the bank b
 

@@ -1,22 +1,24 @@
 // ICFGR: the edge flags of sixteen interrupts to a word.
-ghost use Rattle.std.specs.Prelude.{◌≡◌, ◌*◌, ◌%◌, ◌<◌, length};
-ghost use Rattle.model.specs.Layout.{state_length, most_vcpus, count};
+ghost use Rattle.std.specs.Prelude.{◌≡◌, ◌+◌, ◌*◌, ◌%◌, ◌<◌};
+ghost use Rattle.model.specs.Layout.{most_vcpus, count};
 ghost use Rattle.model.specs.Registers.{banks, seen_by, read_config, write_config};
 ghost use Rattle.registers.specs.Words.{edges_meant, edges_under};
 
-use crate::views::{bank_of, interrupts_of, put_in_view};
+use crate::views::Bank;
 use model::View;
-use model::layout::EDGES;
+use model::layout::{EDGES, State};
 use model::values::EDGE_BITS;
 use words::{config_of, edges_of, replace_under};
 
-// The mask of the interrupts 16k to 16k + 15 that a view has.
-fn edges_meant(s: &[u32], view: View, k: usize) -> u32
-    requires { (length s.now ≡ state_length) × (count s.now % 32 ≡ 0) × (k < 2 * banks view) }
-    ensures { result ≡ edges_meant s.now view k }
+// The mask of those of the interrupts of half a bank that the view has: the first sixteen, or the last.
+#[tactic(auto, using(crate::proofs::Meant::half_of))]
+fn edges_meant(s: &State, bank: Bank, half: usize) -> u32
+    requires in_steps { count s.now % 32 ≡ 0 }
+    requires half_in { half < 2 }
+    ensures { result ≡ edges_meant s.now bank.view (2 * bank.k + half) }
 {
-    let all = interrupts_of(s, view, k / 2);
-    if k % 2 == 0 {
+    let all = bank.interrupts(s);
+    if half == 0 {
         all & EDGE_BITS
     } else {
         all >> 16
@@ -24,12 +26,16 @@ fn edges_meant(s: &[u32], view: View, k: usize) -> u32
 }
 
 // Word `k` of ICFGR.
-pub fn read_config(s: &[u32], view: View, k: usize) -> u32
-    requires { (length s.now ≡ state_length) × (count s.now % 32 ≡ 0) × (seen_by view < most_vcpus) × (k < 2 * banks view) }
+#[tactic(auto, using(crate::proofs::Banks::reads))]
+pub fn read_config(s: &State, view: View, k: usize) -> u32
+    requires in_steps { count s.now % 32 ≡ 0 }
+    requires has_block { seen_by view < most_vcpus }
+    requires has_word { k < 2 * banks view }
     ensures { result ≡ read_config s.now view k }
 {
-    let at = bank_of(view, k / 2);
-    config_of(s[at + EDGES + k % 2] & edges_meant(s, view, k))
+    let bank = Bank { view, k: k / 2 };
+    let half = k % 2;
+    config_of(s[bank.start() + EDGES + half] & edges_meant(s, bank, half))
 }
 
 // Sixteen edge flags `w`, after the bits `e` are written to those that the mask `m` names.
@@ -40,12 +46,17 @@ fn edges_under(w: u32, e: u32, m: u32) -> u32
 }
 
 // Writes word `k` of ICFGR; latch and line are kept.
-pub fn write_config(s: &mut [u32], view: View, k: usize, x: u32)
-    requires { (length s.old ≡ state_length) × (count s.old % 32 ≡ 0) × (seen_by view < most_vcpus) × (k < 2 * banks view) }
+#[tactic(auto, using(crate::proofs::Banks::writes))]
+pub fn write_config(s: &mut State, view: View, k: usize, x: u32)
+    requires in_steps { count s.old % 32 ≡ 0 }
+    requires has_block { seen_by view < most_vcpus }
+    requires has_word { k < 2 * banks view }
     ensures { s.new ≡ write_config s.old view k x }
 {
-    let m = edges_meant(s, view, k);
-    let old = s[bank_of(view, k / 2) + EDGES + k % 2];
+    let bank = Bank { view, k: k / 2 };
+    let half = k % 2;
+    let m = edges_meant(s, bank, half);
+    let old = s[bank.start() + EDGES + half];
     let new = edges_under(old, edges_of(x), m);
-    put_in_view(s, view, k / 2, EDGES + k % 2, new);
+    bank.put(s, EDGES + half, new);
 }

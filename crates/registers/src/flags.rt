@@ -1,146 +1,150 @@
 // The registers with a bit for each of 32 interrupts.
 ghost use Rattle.std.specs.Prelude.{◌≡◌, ◌%◌, ◌<◌, length};
-ghost use Rattle.model.specs.Layout.{state_length, most_vcpus, count};
-ghost use Rattle.model.specs.Registers.{banks, flags, shown_to, rule_for, seen_by, read_flags, write_flags};
-ghost use Rattle.registers.specs.Words.{flags_meant, theirs, shown_in};
+ghost use Rattle.model.specs.Layout.{count};
+ghost use Rattle.model.specs.Registers.{FlagRow, flag_row, flags, shown_to, rule_for, read_flags, write_flags};
+ghost use Rattle.registers.specs.Words.{flags_meant, shown_in};
 
-use crate::views::{bank_of, interrupts_of, put_in_view};
-use model::layout::{ACTIVE, BANK_LENGTH, ENABLED, GROUP, LATCH, LINE};
+use crate::views::Bank;
+use model::Rule::{self, Clears, Ignores, Replaces, Sets};
+use model::Shown::{self, Flag, Nothing, Pending};
+use model::layout::{ACTIVE, BANK_LENGTH, ENABLED, GROUP, LATCH, LINE, State};
 use model::values::FLAG_BITS;
-use model::{By, Flags, Rule, Shown, View};
+use model::{By, Flags};
+use std::marker::Model;
 use words::{pending_of, written_under};
 
-// ---- the rows of their table
+// ---- their table
 
-// Where the flag stands in a bank.
-fn field_of(f: Flags) -> usize
-    ensures { (result ≡ (flags f).field) × (result < 16) }
+// A row: where the flag stands in a bank, the least ID that has it, and what guest and attribute read and write of it.
+#[derive(Drop)]
+struct Row {
+    field: usize,
+    from: usize,
+    guest_shows: Shown,
+    guest_rule: Rule,
+    attribute_shows: Shown,
+    attribute_rule: Rule,
+}
+
+// Contracts see it as the definitions' row.
+impl Model for Row {
+    ghost Value = { FlagRow };
+
+    ghost view = { λ r. flag_row r.field r.from r.guest_shows r.guest_rule r.attribute_shows r.attribute_rule };
+
+    ghost invariant = { λ r. (r.field < 16) × (r.from < 32) };
+}
+
+impl Row {
+    fn new(field: usize, from: usize, guest: (Shown, Rule), attribute: (Shown, Rule)) -> Self
+        requires field_in { field < 16 }
+        requires from_in { from < 32 }
+        ensures { result ≡ flag_row field from guest.0 guest.1 attribute.0 attribute.1 }
+    {
+        let (guest_shows, guest_rule) = guest;
+        let (attribute_shows, attribute_rule) = attribute;
+        Row {
+            field,
+            from,
+            guest_shows,
+            guest_rule,
+            attribute_shows,
+            attribute_rule,
+        }
+    }
+
+    // What a register shows of it, to a guest or by attribute.
+    #[tactic(auto, unfolding(model::specs::Registers::shown_to))]
+    fn shown_to(&self, by: By) -> Shown
+        ensures { result ≡ shown_to by self.now }
+    {
+        match by {
+            By::Guest => self.guest_shows,
+            By::Attribute => self.attribute_shows,
+        }
+    }
+
+    // What a bit written to a register does to it, by a guest or by attribute.
+    #[tactic(auto, unfolding(model::specs::Registers::rule_for))]
+    fn rule_for(&self, by: By) -> Rule
+        ensures { result ≡ rule_for by self.now }
+    {
+        match by {
+            By::Guest => self.guest_rule,
+            By::Attribute => self.attribute_rule,
+        }
+    }
+}
+
+// The row of a register; what it shows and does stands first for the guest, then for the attribute.
+#[tactic(auto, unfolding(model::specs::Registers::flags))]
+fn row_of(f: Flags) -> Row
+    ensures { result ≡ flags f }
 {
     match f {
-        Flags::Group => GROUP,
-        Flags::SetEnable => ENABLED,
-        Flags::ClearEnable => ENABLED,
-        Flags::SetPending => LATCH,
-        Flags::ClearPending => LATCH,
-        Flags::SetActive => ACTIVE,
-        Flags::ClearActive => ACTIVE,
-        Flags::Lines => LINE,
-    }
-}
-
-// The least ID that has it.
-fn least_of(f: Flags) -> usize
-    ensures { (result ≡ (flags f).from) × (result < 32) }
-{
-    match f {
-        Flags::Group => 0,
-        Flags::SetEnable => 0,
-        Flags::ClearEnable => 0,
-        Flags::SetPending => 0,
-        Flags::ClearPending => 0,
-        Flags::SetActive => 0,
-        Flags::ClearActive => 0,
-        Flags::Lines => 16,
-    }
-}
-
-// The guest's, or the attribute's.
-fn shows(by: By, guest: Shown, attribute: Shown) -> Shown
-    ensures { result ≡ theirs by guest attribute }
-{
-    match by {
-        By::Guest => guest,
-        By::Attribute => attribute,
-    }
-}
-
-// The same of a rule.
-fn writes(by: By, guest: Rule, attribute: Rule) -> Rule
-    ensures { result ≡ theirs by guest attribute }
-{
-    match by {
-        By::Guest => guest,
-        By::Attribute => attribute,
-    }
-}
-
-// What a register shows of it, to a guest and by attribute.
-fn shown_to(by: By, f: Flags) -> Shown
-    ensures { result ≡ shown_to by (flags f) }
-{
-    match f {
-        Flags::Group => shows(by, Shown::Flag, Shown::Flag),
-        Flags::SetEnable => shows(by, Shown::Flag, Shown::Flag),
-        Flags::ClearEnable => shows(by, Shown::Flag, Shown::Flag),
-        Flags::SetPending => shows(by, Shown::Pending, Shown::Flag),
-        Flags::ClearPending => shows(by, Shown::Pending, Shown::Nothing),
-        Flags::SetActive => shows(by, Shown::Flag, Shown::Flag),
-        Flags::ClearActive => shows(by, Shown::Flag, Shown::Flag),
-        Flags::Lines => shows(by, Shown::Nothing, Shown::Flag),
-    }
-}
-
-// What a bit written to a register does to it, by a guest and by attribute.
-fn rule_for(by: By, f: Flags) -> Rule
-    ensures { result ≡ rule_for by (flags f) }
-{
-    match f {
-        Flags::Group => writes(by, Rule::Replaces, Rule::Replaces),
-        Flags::SetEnable => writes(by, Rule::Sets, Rule::Sets),
-        Flags::ClearEnable => writes(by, Rule::Clears, Rule::Clears),
-        Flags::SetPending => writes(by, Rule::Sets, Rule::Replaces),
-        Flags::ClearPending => writes(by, Rule::Clears, Rule::Ignores),
-        Flags::SetActive => writes(by, Rule::Sets, Rule::Sets),
-        Flags::ClearActive => writes(by, Rule::Clears, Rule::Clears),
-        Flags::Lines => writes(by, Rule::Ignores, Rule::Replaces),
+        Flags::Group => Row::new(GROUP, 0, (Flag, Replaces), (Flag, Replaces)),
+        Flags::SetEnable => Row::new(ENABLED, 0, (Flag, Sets), (Flag, Sets)),
+        Flags::ClearEnable => Row::new(ENABLED, 0, (Flag, Clears), (Flag, Clears)),
+        Flags::SetPending => Row::new(LATCH, 0, (Pending, Sets), (Flag, Replaces)),
+        Flags::ClearPending => Row::new(LATCH, 0, (Pending, Clears), (Nothing, Ignores)),
+        Flags::SetActive => Row::new(ACTIVE, 0, (Flag, Sets), (Flag, Sets)),
+        Flags::ClearActive => Row::new(ACTIVE, 0, (Flag, Clears), (Flag, Clears)),
+        Flags::Lines => Row::new(LINE, 16, (Nothing, Ignores), (Flag, Replaces)),
     }
 }
 
 // ---- reading and writing
 
-// Of the interrupts 32k to 32k + 31 that a view has, the mask of those from `least` on: 0, or 16 for lines, which SGIs do not have.
-fn flags_meant(s: &[u32], view: View, least: usize, k: usize) -> u32
-    requires { (length s.now ≡ state_length) × (count s.now % 32 ≡ 0) × (least < 32) × (k < banks view) }
-    ensures { result ≡ flags_meant s.now view least k }
+// Of the interrupts of a bank that the view has, the mask of those from `from` on: 0, or 16 for lines, which SGIs do not have.
+#[tactic(auto, using(crate::proofs::Meant::least))]
+fn flags_meant(s: &State, bank: Bank, from: usize) -> u32
+    requires in_steps { count s.now % 32 ≡ 0 }
+    requires from_in { from < 32 }
+    ensures { result ≡ flags_meant s.now bank.view from bank.k }
 {
-    let all = interrupts_of(s, view, k);
-    if k == 0 {
-        all & (FLAG_BITS << (least as u32))
+    let all = bank.interrupts(s);
+    if bank.k == 0 {
+        all & (FLAG_BITS << (from as u32))
     } else {
         all
     }
 }
 
 // What is shown of the flags in word `k` of a bank.
-fn shown_in(bank: &[u32], shown: Shown, k: usize) -> u32
-    requires { (length bank.now ≡ 16) × (k < 16) }
-    ensures { result ≡ shown_in shown k bank.now }
+#[tactic(auto, unfolding(crate::specs::Words::shown_in))]
+fn shown_in(words: &[u32], shown: Shown, k: usize) -> u32
+    requires whole { length words.now ≡ 16 }
+    requires word_in { k < 16 }
+    ensures { result ≡ shown_in shown k words.now }
 {
     match shown {
         Shown::Nothing => 0,
-        Shown::Flag => bank[k],
-        Shown::Pending => pending_of(bank),
+        Shown::Flag => words[k],
+        Shown::Pending => pending_of(words),
     }
 }
 
-// Word `k` of a register of flags.
-pub fn read_flags(s: &[u32], by: By, view: View, f: Flags, k: usize) -> u32
-    requires { (length s.now ≡ state_length) × (count s.now % 32 ≡ 0) × (seen_by view < most_vcpus) × (k < banks view) }
-    ensures { result ≡ read_flags s.now view (flags f).field (flags f).from (shown_to by (flags f)) k }
+// The word of a register of flags for the interrupts of a bank.
+#[tactic(auto, using(crate::proofs::Banks::reads))]
+pub fn read_flags(s: &State, by: By, bank: Bank, f: Flags) -> u32
+    requires { count s.now % 32 ≡ 0 }
+    ensures { result ≡ read_flags s.now bank.view (flags f).field (flags f).from (shown_to by (flags f)) bank.k }
 {
-    let at = bank_of(view, k);
-    let shown = shown_in(&s[at..at + BANK_LENGTH], shown_to(by, f), field_of(f));
-    shown & flags_meant(s, view, least_of(f), k)
+    let row = row_of(f);
+    let at = bank.start();
+    let shown = shown_in(&s[at..at + BANK_LENGTH], row.shown_to(by), row.field);
+    shown & flags_meant(s, bank, row.from)
 }
 
-// Writes word `k` of a register of flags.
-pub fn write_flags(s: &mut [u32], by: By, view: View, f: Flags, k: usize, x: u32)
-    requires { (length s.old ≡ state_length) × (count s.old % 32 ≡ 0) × (seen_by view < most_vcpus) × (k < banks view) }
-    ensures { s.new ≡ write_flags s.old view (flags f).field (flags f).from (rule_for by (flags f)) k x }
+// Writes that word.
+#[tactic(auto, using(crate::proofs::Banks::writes))]
+pub fn write_flags(s: &mut State, by: By, bank: Bank, f: Flags, x: u32)
+    requires { count s.old % 32 ≡ 0 }
+    ensures { s.new ≡ write_flags s.old bank.view (flags f).field (flags f).from (rule_for by (flags f)) bank.k x }
 {
-    let m = flags_meant(s, view, least_of(f), k);
-    let field = field_of(f);
-    let old = s[bank_of(view, k) + field];
-    let new = written_under(rule_for(by, f), old, x, m);
-    put_in_view(s, view, k, field, new);
+    let row = row_of(f);
+    let m = flags_meant(s, bank, row.from);
+    let old = s[bank.start() + row.field];
+    let new = written_under(row.rule_for(by), old, x, m);
+    bank.put(s, row.field, new);
 }

@@ -1,13 +1,14 @@
 // A view of the interrupts, the distributor's or a frame's: whose they are, which it has, and their banks.
-ghost use Rattle.std.specs.Prelude.{◌≡◌, ◌+◌, ◌%◌, ◌≤◌, ◌<◌, length, set};
-ghost use Rattle.model.specs.Layout.{state_length, most_vcpus, count, bank};
+ghost use Rattle.std.specs.Prelude.{◌≡◌, ◌+◌, ◌%◌, ◌≤◌, ◌<◌, set};
+ghost use Rattle.model.specs.Layout.{most_vcpus, count, bank};
 ghost use Rattle.model.specs.Registers.{banks, has, seen_by};
 ghost use Rattle.model.specs.declared.View.TheVariants.{Frame};
 ghost use Rattle.registers.specs.Words.{flags_meant};
 
 use model::View;
+use model::layout::State;
 use model::values::{FLAG_BITS, LAST_FLAG_BITS};
-use state::{VcpuIndex, bank_at, is_spi, put_in_bank};
+use state::{Vcpu, VcpuIndex, bank_at, is_spi, put_in_bank};
 
 // The view of a vCPU's frame; here and in `seen_by` alone an index and a view are turned into each other.
 pub fn frame_view(v: VcpuIndex) -> View
@@ -17,6 +18,7 @@ pub fn frame_view(v: VcpuIndex) -> View
 }
 
 // The vCPU whose private interrupts a view has.
+#[tactic(auto, unfolding(model::specs::Registers::seen_by))]
 pub fn seen_by(view: View) -> VcpuIndex
     ensures { result.0 ≡ seen_by view }
 {
@@ -26,29 +28,17 @@ pub fn seen_by(view: View) -> VcpuIndex
     }
 }
 
-// ---- banks
-
-// Where the bank of the interrupts 32k to 32k + 31 of a view starts.
-pub fn bank_of(view: View, k: usize) -> usize
-    requires { (seen_by view < most_vcpus) × (k < banks view) }
-    ensures { (result ≡ bank (seen_by view) k) × (result + 16 ≤ 768) }
+// The same, where the state has a block for it.
+pub fn vcpu_of(view: View) -> Vcpu
+    requires { seen_by view < most_vcpus }
+    ensures { result.index ≡ seen_by view }
 {
-    bank_at(seen_by(view), k)
+    Vcpu::at(seen_by(view))
 }
-
-// Stores word `j` of that bank.
-pub fn put_in_view(s: &mut [u32], view: View, k: usize, j: usize, x: u32)
-    requires { (length s.old ≡ state_length) × (seen_by view < most_vcpus) × (k < banks view) × (j < 16) }
-    ensures { s.new ≡ set s.old (bank (seen_by view) k + j) x }
-{
-    put_in_bank(s, seen_by(view), k, j, x);
-}
-
-// ---- which interrupts it has
 
 // Whether a view has the interrupt.
-pub fn has_id(s: &[u32], view: View, id: usize) -> bool
-    requires { length s.now ≡ state_length }
+#[tactic(auto, unfolding(model::specs::Registers::has, model::specs::Interrupts::is_private))]
+pub fn has_id(s: &State, view: View, id: usize) -> bool
     ensures { result ≡ has s.now view id }
 {
     match view {
@@ -57,13 +47,49 @@ pub fn has_id(s: &[u32], view: View, id: usize) -> bool
     }
 }
 
-// The mask of the interrupts 32k to 32k + 31 that a view has: all, none, or the 28 before ID 1020.
-pub fn interrupts_of(s: &[u32], view: View, k: usize) -> u32
-    requires { (length s.now ≡ state_length) × (count s.now % 32 ≡ 0) × (k < banks view) }
-    ensures { result ≡ flags_meant s.now view 0 k }
-{
-    if !has_id(s, view, 32 * k) {
-        return 0;
+// ---- its banks
+
+// The bank of the interrupts 32k to 32k + 31 of a view.
+#[derive(Clone, Copy)]
+pub struct Bank {
+    pub view: View,
+    pub k: usize,
+    ghost seen: { seen_by view < most_vcpus },
+    ghost within: { k < banks view },
+}
+
+impl Bank {
+    // Where it starts.
+    #[tactic(auto, using(crate::proofs::Banks::within))]
+    pub fn start(self) -> usize
+        ensures place { result ≡ bank (seen_by self.view) self.k }
+        ensures inside { result + 16 ≤ 768 }
+    {
+        bank_at(vcpu_of(self.view), self.k)
     }
-    if k == 31 { LAST_FLAG_BITS } else { FLAG_BITS }
+
+    // Stores its word `j`.
+    #[tactic(auto, using(crate::proofs::Banks::within))]
+    pub fn put(self, s: &mut State, j: usize, x: u32)
+        requires { j < 16 }
+        ensures { s.new ≡ set s.old (bank (seen_by self.view) self.k + j) x }
+    {
+        put_in_bank(s, vcpu_of(self.view), self.k, j, x);
+    }
+
+    // The mask of those of its interrupts that the view has: all, none, or the 28 before ID 1020.
+    #[tactic(auto, using(crate::proofs::Meant::thirty_two))]
+    pub fn interrupts(self, s: &State) -> u32
+        requires { count s.now % 32 ≡ 0 }
+        ensures { result ≡ flags_meant s.now self.view 0 self.k }
+    {
+        if !has_id(s, self.view, 32 * self.k) {
+            return 0;
+        }
+        if self.k == 31 {
+            LAST_FLAG_BITS
+        } else {
+            FLAG_BITS
+        }
+    }
 }

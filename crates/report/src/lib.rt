@@ -1,7 +1,8 @@
 // What the programs of cases print: texts, numbers, answers, and words of the state. Each function writes to `out`, and gives the error of a write that failed.
 #![tactic(auto)]
 
-use calls::magnitude;
+use calls::{magnitude, number_of};
+use model::Errno;
 use std::io;
 use std::io::Write;
 
@@ -33,6 +34,16 @@ pub fn say_answer(out: &mut impl Write, r: i64) -> io::Result<()> {
     }
 }
 
+// What a call that writes answers.
+pub fn say_written(out: &mut impl Write, answer: Result<u32, Errno>) -> io::Result<()> {
+    say_signed(out, number_of(answer))
+}
+
+// What a call that reads answers.
+pub fn say_read(out: &mut impl Write, answer: Result<u32, Errno>) -> io::Result<()> {
+    say_answer(out, number_of(answer))
+}
+
 // A word, where it changed, as its place in decimal and its value in hex.
 pub fn say_word(out: &mut impl Write, at: usize, word: u32, before: u32) -> io::Result<()> {
     if word == before {
@@ -43,8 +54,8 @@ pub fn say_word(out: &mut impl Write, at: usize, word: u32, before: u32) -> io::
 
 // The words that changed.
 pub fn say_changed(out: &mut impl Write, s: &[u32; 1760], before: &[u32; 1760]) -> io::Result<()> {
-    for i in 0..1760 {
-        say_word(out, i, s[i], before[i])?;
+    for (at, (word, before)) in s.iter().zip(before).enumerate() {
+        say_word(out, at, *word, *before)?;
     }
     Ok(())
 }

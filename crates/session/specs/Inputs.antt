@@ -1,5 +1,5 @@
 -- A session between its reads: where it is not known which bytes were read, the words and the line begun are what some bytes make of them; where it is known, the bytes that were read and those that were written are told too.
-use Rattle.std.specs.Prelude.{ℕ, ◌≡◌, ◌+◌, ◌≤◌, Bool, true, false, List, [], length, take, ⊤, Option, None, Some}
+use Rattle.std.specs.Prelude.{ℕ, ◌≡◌, ◌+◌, ◌≤◌, Bool, true, false, List, [], length, ⊤, Option, None, Some}
 use Rattle.std.specs.Io.KnownBytes.{Consumes, Appends, IsAtEnd}
 use Rattle.console.specs.Sessions.{Session, block_read}
 
@@ -12,12 +12,6 @@ pub record ReadOn (t : Session) (s l : List ℕ) : Type 0 where
   pub input : List ℕ
   pub words : s ≡ (block_read t input).words
   pub line : l ≡ (block_read t input).line
-
--- some bytes were read, and they leave the words s and, of the buffer l, a line of at most 81 bytes at its front
-pub record ReadOnTo (t : Session) (s l : List ℕ) : Type 0 where
-  pub kept : ℕ
-  pub kept_bound : kept ≤ 81
-  pub read_on : ReadOn t s (take kept l)
 
 -- the bytes that were read are those that a reader, of what it had left, has no more; and what they print is what a writer holds more
 pub record Answered (t : Session) (had has held holds : Option (List ℕ)) (s l : List ℕ) : Type 0 where

@@ -12,37 +12,26 @@ ghost use Rattle.model.specs.declared.AttributeGroup.TheVariants.{Count, Initial
 
 use model::layout::{
     AFFINITY, BLOCK_LENGTH, BPR0, BPR1, COUNT, EDGES, INITIALISED, LEAST_BPR0, LEAST_BPR1,
-    MOST_VCPUS, RUNNING, STATE_LENGTH, VCPUS,
+    MOST_VCPUS, RUNNING, STATE_LENGTH, State, VCPUS,
 };
 use model::values::EDGE_BITS;
-use model::{Answer, Errno, Phase, Refusal};
+use model::{Errno, Phase};
 use state::{
-    Mpidr, VcpuIndex, block_at, is_affinity, is_count, is_sound, is_unused, put_in_block,
-    vcpu_refusal,
+    Mpidr, Vcpu, VcpuIndex, block_at, check_vcpu, is_affinity, is_count, is_sound, is_unused,
+    put_in_block,
 };
 
 // ---- make a device
 
-// Every word becomes zero.
-fn clear(s: &mut [u32])
-    ensures { s.new ≡ replicate (length s.old) 0 }
-{
-    let mut i: usize = 0;
-    while i < s.len() {
-        s[i] = 0;
-        i += 1;
-    }
-}
-
 // Any content of the right length becomes a device: all zero.
-pub fn make_device(s: &mut [u32]) -> Answer
+pub fn make_device(s: &mut [u32]) -> Result<u32, Errno>
     ensures { Does (call make s.old) (number result) s.new [] }
 {
     if s.len() != STATE_LENGTH {
-        return Answer::Refused(Errno::Efault);
+        return Err(Errno::Efault);
     }
-    clear(s);
-    Answer::Value(0)
+    s.fill(0);
+    Ok(0)
 }
 
 // ---- add a vCPU
@@ -59,97 +48,99 @@ fn write_block(b: &mut [u32], mpidr: Mpidr)
 }
 
 // One vCPU more, the last, its block lent on.
-fn write_vcpu(s: &mut [u32], mpidr: Mpidr)
-    requires { (length s.old ≡ state_length) × (vcpus s.old < most_vcpus) }
+fn write_vcpu(s: &mut State, mpidr: Mpidr)
+    requires { vcpus s.old < most_vcpus }
     ensures { s.new ≡ vcpu_added s.old (vcpus s.old) mpidr.0 }
 {
     let n = s[VCPUS];
-    let at = block_at(VcpuIndex(n as usize));
+    let at = block_at(Vcpu { index: n as usize });
     write_block(&mut s[at..at + BLOCK_LENGTH], mpidr);
     s[VCPUS] = n + 1;
 }
 
 // 16 if initialised; 22 bad affinity; 17 in use; 12 a ninth vCPU.
-fn add_refusal(s: &[u32], mpidr: Mpidr) -> Refusal
+fn check_new_vcpu(s: &State, mpidr: Mpidr) -> Result<(), Errno>
     ensures { result ≡ first_failing ((sound s.now, Efault) ∷ checks (add_vcpu mpidr.0) s.now) }
 {
     if !is_sound(s) {
-        return Refusal::Refuse(Errno::Efault);
+        return Err(Errno::Efault);
     }
     if s[INITIALISED] == 1 {
-        return Refusal::Refuse(Errno::Ebusy);
+        return Err(Errno::Ebusy);
     }
     if !is_affinity(mpidr) {
-        return Refusal::Refuse(Errno::Einval);
+        return Err(Errno::Einval);
     }
     let n = s[VCPUS] as usize;
     if !is_unused(s, mpidr, n) {
-        return Refusal::Refuse(Errno::Eexist);
+        return Err(Errno::Eexist);
     }
     if n >= MOST_VCPUS {
-        return Refusal::Refuse(Errno::Enomem);
+        return Err(Errno::Enomem);
     }
-    Refusal::None
+    Ok(())
 }
 
 // Adds a vCPU with an affinity of its own.
-pub fn add_vcpu(s: &mut [u32], mpidr: Mpidr) -> Answer
+pub fn add_vcpu(s: &mut [u32], mpidr: Mpidr) -> Result<u32, Errno>
     ensures { Does (call (add_vcpu mpidr.0) s.old) (number result) s.new [] }
 {
-    let refusal = add_refusal(s, mpidr);
-    if let Refusal::Refuse(e) = refusal {
-        return Answer::Refused(e);
-    }
+    let Some(s) = s.as_mut_array::<STATE_LENGTH>() else {
+        return Err(Errno::Efault);
+    };
+    check_new_vcpu(s, mpidr)?;
     write_vcpu(s, mpidr);
-    Answer::Value(0)
+    Ok(0)
 }
 
 // ---- attribute group 3: the interrupt count
 
 // Whether the count may still be set.
-fn count_is_open(s: &[u32]) -> bool
-    requires { length s.now ≡ state_length }
+fn count_is_open(s: &State) -> bool
     ensures { result ≡ (eqb (count s.now) 0 && not (is_initialised s.now)) }
 {
     (s[COUNT] == 0) & (s[INITIALISED] != 1)
 }
 
 // 22 no count; 16 if set or initialised.
-fn count_refusal(s: &[u32], value: u64) -> Refusal
+fn check_count(s: &State, value: u64) -> Result<(), Errno>
     ensures { result ≡ first_failing ((sound s.now, Efault) ∷ set_checks Count 0 value s.now) }
 {
     if !is_sound(s) {
-        return Refusal::Refuse(Errno::Efault);
+        return Err(Errno::Efault);
     }
     if !is_count(value) {
-        return Refusal::Refuse(Errno::Einval);
+        return Err(Errno::Einval);
     }
     if !count_is_open(s) {
-        return Refusal::Refuse(Errno::Ebusy);
+        return Err(Errno::Ebusy);
     }
-    Refusal::None
+    Ok(())
 }
 
 // Sets the count; the attribute's number is ignored.
-pub fn set_count(s: &mut [u32], attribute: u64, value: u64) -> Answer
+pub fn set_count(s: &mut [u32], attribute: u64, value: u64) -> Result<u32, Errno>
     ensures { Does (call (set_attribute 3 attribute value) s.old) (number result) s.new [] }
 {
-    let refusal = count_refusal(s, value);
-    if let Refusal::Refuse(e) = refusal {
-        return Answer::Refused(e);
-    }
+    let Some(s) = s.as_mut_array::<STATE_LENGTH>() else {
+        return Err(Errno::Efault);
+    };
+    check_count(s, value)?;
     s[COUNT] = value as u32;
-    Answer::Value(0)
+    Ok(0)
 }
 
 // Gives the count, 0 where it is unset.
-pub fn get_count(s: &[u32], attribute: u64) -> Answer
+pub fn get_count(s: &[u32], attribute: u64) -> Result<u32, Errno>
     ensures { Does (call (get_attribute 3 attribute) s.now) (number result) s.now [] }
 {
+    let Some(s) = s.as_array::<STATE_LENGTH>() else {
+        return Err(Errno::Efault);
+    };
     if !is_sound(s) {
-        return Answer::Refused(Errno::Efault);
+        return Err(Errno::Efault);
     }
-    Answer::Value(s[COUNT])
+    Ok(s[COUNT])
 }
 
 // ---- attribute group 4: initialise
@@ -162,8 +153,7 @@ fn count_or_default(c: u32) -> u32
 }
 
 // The two words that initialise writes.
-fn mark_initialised(s: &mut [u32], count: u32)
-    requires { length s.old ≡ state_length }
+fn mark_initialised(s: &mut State, count: u32)
     ensures { s.new ≡ set (set s.old count_at count) initialised_at 1 }
 {
     s[COUNT] = count;
@@ -171,8 +161,7 @@ fn mark_initialised(s: &mut [u32], count: u32)
 }
 
 // No change if done already.
-fn write_initialised(s: &mut [u32])
-    requires { length s.old ≡ state_length }
+fn write_initialised(s: &mut State)
     ensures { s.new ≡ initialised_next s.old }
 {
     if s[INITIALISED] == 1 {
@@ -183,60 +172,60 @@ fn write_initialised(s: &mut [u32])
 }
 
 // Whether the device is initialised, or has a vCPU.
-fn may_initialise(s: &[u32]) -> bool
-    requires { length s.now ≡ state_length }
+fn may_initialise(s: &State) -> bool
     ensures { result ≡ (is_initialised s.now || ltb 0 (vcpus s.now)) }
 {
     (s[INITIALISED] == 1) | (0 < s[VCPUS])
 }
 
 // 6 if the attribute is not 0; 19 with no vCPU, unless done already.
-fn initialise_refusal(s: &[u32], attribute: u64) -> Refusal
+fn check_initialise(s: &State, attribute: u64) -> Result<(), Errno>
     ensures { result ≡ first_failing ((sound s.now, Efault) ∷ set_checks Initialise attribute 0 s.now) }
 {
     if !is_sound(s) {
-        return Refusal::Refuse(Errno::Efault);
+        return Err(Errno::Efault);
     }
     if attribute != 0 {
-        return Refusal::Refuse(Errno::Enxio);
+        return Err(Errno::Enxio);
     }
     if !may_initialise(s) {
-        return Refusal::Refuse(Errno::Enodev);
+        return Err(Errno::Enodev);
     }
-    Refusal::None
+    Ok(())
 }
 
 // Initialises the device; the value is ignored.
-pub fn initialise(s: &mut [u32], attribute: u64, value: u64) -> Answer
+pub fn initialise(s: &mut [u32], attribute: u64, value: u64) -> Result<u32, Errno>
     ensures { Does (call (set_attribute 4 attribute value) s.old) (number result) s.new [] }
 {
-    let refusal = initialise_refusal(s, attribute);
-    if let Refusal::Refuse(e) = refusal {
-        return Answer::Refused(e);
-    }
+    let Some(s) = s.as_mut_array::<STATE_LENGTH>() else {
+        return Err(Errno::Efault);
+    };
+    check_initialise(s, attribute)?;
     write_initialised(s);
-    Answer::Value(0)
+    Ok(0)
 }
 
 // Group 4 has only a set.
-pub fn get_initialise(s: &[u32], attribute: u64) -> Answer
+pub fn get_initialise(s: &[u32], attribute: u64) -> Result<u32, Errno>
     ensures { Does (call (get_attribute 4 attribute) s.now) (number result) s.now [] }
 {
     if !is_sound(s) {
-        return Answer::Refused(Errno::Efault);
+        return Err(Errno::Efault);
     }
-    Answer::Refused(Errno::Enxio)
+    Err(Errno::Enxio)
 }
 
 // ---- running flag
 
 // Marks a vCPU as running, or as stopped.
-pub fn set_running(s: &mut [u32], v: VcpuIndex, on: bool) -> Answer
+pub fn set_running(s: &mut [u32], v: VcpuIndex, on: bool) -> Result<u32, Errno>
     ensures { Does (call (set_running v.0 on) s.old) (number result) s.new [] }
 {
-    if let Refusal::Refuse(e) = vcpu_refusal(s, Phase::Initialised, v) {
-        return Answer::Refused(e);
-    }
-    put_in_block(s, v, RUNNING, on as u32);
-    Answer::Value(0)
+    let Some(s) = s.as_mut_array::<STATE_LENGTH>() else {
+        return Err(Errno::Efault);
+    };
+    check_vcpu(s, Phase::Initialised, v)?;
+    put_in_block(s, Vcpu::at(v), RUNNING, on as u32);
+    Ok(0)
 }

@@ -1,8 +1,8 @@
 // Runs the set-up calls and prints their answers and the words that they leave. The file stdout holds what document 01 gives for each.
 #![tactic(auto)]
 
-use report::{say, say_decimal, say_hex, say_signed, say_word};
-use state::{Found, Mpidr, VcpuIndex};
+use report::{say, say_decimal, say_hex, say_word, say_written};
+use state::{Mpidr, Vcpu, VcpuIndex};
 use std::io;
 use std::io::Write;
 
@@ -24,9 +24,9 @@ fn count_case(out: &mut impl Write, value: u64) -> io::Result<()> {
     say(out, b"count ")?;
     say_decimal(out, value)?;
     say(out, b":")?;
-    say_signed(out, calls::make(&mut s))?;
-    say_signed(out, calls::set_attribute(&mut s, 3, 0, value))?;
-    say_signed(out, calls::get_attribute(&s, 3, 0))?;
+    say_written(out, calls::make(&mut s))?;
+    say_written(out, calls::set_attribute(&mut s, 3, 0, value))?;
+    say_written(out, calls::get_attribute(&s, 3, 0))?;
     say(out, b"\n")
 }
 
@@ -51,41 +51,41 @@ fn counts(out: &mut impl Write) -> io::Result<()> {
 fn count_first(out: &mut impl Write) -> io::Result<()> {
     let mut s = [0xffff_ffffu32; 1760];
     say(out, b"count first:")?;
-    say_signed(out, calls::make(&mut s))?;
-    say_signed(out, calls::set_attribute(&mut s, 3, 7, 96))?;
+    say_written(out, calls::make(&mut s))?;
+    say_written(out, calls::set_attribute(&mut s, 3, 7, 96))?;
     say_add(out, &mut s, 0)?;
     say_add(out, &mut s, 0x0012_340f)?;
-    say_signed(out, calls::set_attribute(&mut s, 4, 0, 5))?;
+    say_written(out, calls::set_attribute(&mut s, 4, 0, 5))?;
     say_words(out, &s)
 }
 
 fn vcpus_first(out: &mut impl Write) -> io::Result<()> {
     let mut s = [0u32; 1760];
     say(out, b"vCPUs first:")?;
-    say_signed(out, calls::make(&mut s))?;
+    say_written(out, calls::make(&mut s))?;
     say_add(out, &mut s, 0)?;
     say_add(out, &mut s, 0x0012_340f)?;
-    say_signed(
+    say_written(
         out,
         calls::set_attribute(&mut s, 3, 0xffff_ffff_ffff_ffff, 96),
     )?;
     say_words(out, &s)?;
     say(out, b"initialised:")?;
-    say_signed(out, calls::set_attribute(&mut s, 4, 0, 0))?;
+    say_written(out, calls::set_attribute(&mut s, 4, 0, 0))?;
     say_words(out, &s)
 }
 
 fn no_count(out: &mut impl Write) -> io::Result<()> {
     let mut s = [0u32; 1760];
     say(out, b"no count:")?;
-    say_signed(out, calls::make(&mut s))?;
+    say_written(out, calls::make(&mut s))?;
     say_add(out, &mut s, 1)?;
-    say_signed(out, calls::get_attribute(&s, 3, 0))?;
-    say_signed(out, calls::set_attribute(&mut s, 4, 0, 0))?;
-    say_signed(out, calls::get_attribute(&s, 3, 0xffff_ffff))?;
+    say_written(out, calls::get_attribute(&s, 3, 0))?;
+    say_written(out, calls::set_attribute(&mut s, 4, 0, 0))?;
+    say_written(out, calls::get_attribute(&s, 3, 0xffff_ffff))?;
     say_words(out, &s)?;
     say(out, b"again:")?;
-    say_signed(out, calls::set_attribute(&mut s, 4, 0, 0))?;
+    say_written(out, calls::set_attribute(&mut s, 4, 0, 0))?;
     say_words(out, &s)
 }
 
@@ -93,78 +93,65 @@ fn no_count(out: &mut impl Write) -> io::Result<()> {
 
 // The answer to adding a vCPU.
 fn say_add(out: &mut impl Write, s: &mut [u32], mpidr: u32) -> io::Result<()> {
-    say_signed(out, calls::add_vcpu(s, Mpidr(mpidr)))
+    say_written(out, calls::add_vcpu(s, Mpidr(mpidr)))
 }
 
 // The answer to marking a vCPU as running.
 fn say_run(out: &mut impl Write, s: &mut [u32], v: usize) -> io::Result<()> {
-    say_signed(out, calls::set_running(s, VcpuIndex(v), true))
+    say_written(out, calls::set_running(s, VcpuIndex(v), true))
 }
 
 fn nine_vcpus(out: &mut impl Write) -> io::Result<()> {
     let mut s = [0u32; 1760];
     say(out, b"nine vCPUs:")?;
-    say_signed(out, calls::make(&mut s))?;
-    say_add(out, &mut s, 0)?;
-    say_add(out, &mut s, 0x100)?;
-    say_add(out, &mut s, 0x200)?;
-    say_add(out, &mut s, 0x300)?;
-    say_add(out, &mut s, 0x400)?;
-    say_add(out, &mut s, 0x500)?;
-    say_add(out, &mut s, 0x600)?;
-    say_add(out, &mut s, 0x700)?;
-    say_add(out, &mut s, 0x800)?;
+    say_written(out, calls::make(&mut s))?;
+    for mpidr in (0..9).map(|n| n << 8) {
+        say_add(out, &mut s, mpidr)?;
+    }
     say(out, b"\nwith eight: bad, used, free:")?;
     say_add(out, &mut s, 0x10)?;
     say_add(out, &mut s, 0x700)?;
     say_add(out, &mut s, 0x0f)?;
     say_words(out, &s)?;
     say(out, b"initialised, all running:")?;
-    say_signed(out, calls::set_attribute(&mut s, 4, 0, 0))?;
-    say_run(out, &mut s, 0)?;
-    say_run(out, &mut s, 1)?;
-    say_run(out, &mut s, 2)?;
-    say_run(out, &mut s, 3)?;
-    say_run(out, &mut s, 4)?;
-    say_run(out, &mut s, 5)?;
-    say_run(out, &mut s, 6)?;
-    say_run(out, &mut s, 7)?;
-    say_run(out, &mut s, 8)?;
+    say_written(out, calls::set_attribute(&mut s, 4, 0, 0))?;
+    for v in 0..9 {
+        say_run(out, &mut s, v)?;
+    }
     say_words(out, &s)
 }
 
 // The index of the vCPU that has the affinity.
 fn say_index(out: &mut impl Write, s: &[u32], mpidr: Mpidr) -> io::Result<()> {
-    if s.len() == 1760 {
-        if s[2] <= 8 {
-            match state::index_of(s, mpidr) {
-                Found::At(v) => {
-                    say(out, b" ")?;
-                    say_decimal(out, v.0 as u64)?;
-                }
-                Found::Nowhere => say(out, b" none")?,
-            }
-        }
+    let Some(s) = s.as_array() else {
+        return Ok(());
+    };
+    if s[2] > 8 {
+        return Ok(());
     }
-    Ok(())
+    match state::index_of(s, mpidr) {
+        Some(v) => write!(out, " {}", v.0),
+        None => say(out, b" none"),
+    }
 }
 
 // The affinity of a vCPU.
 fn say_affinity(out: &mut impl Write, s: &[u32], v: usize) -> io::Result<()> {
-    if s.len() == 1760 {
-        if v < 8 {
-            say_hex(out, state::affinity_of(s, VcpuIndex(v)).0 as u64)?;
+    match s.as_array() {
+        Some(s) if v < 8 => {
+            let mpidr = state::affinity_of(s, Vcpu { index: v });
+            say_hex(out, u64::from(mpidr.0))
         }
+        _ => Ok(()),
     }
-    Ok(())
 }
 
 fn lookups(out: &mut impl Write) -> io::Result<()> {
     let mut s = [0u32; 1760];
-    calls::make(&mut s);
-    calls::add_vcpu(&mut s, Mpidr(0x10f));
-    calls::add_vcpu(&mut s, Mpidr(0x3));
-    calls::add_vcpu(&mut s, Mpidr(0x20000));
+    let _ = calls::make(&mut s);
+    let _ = calls::add_vcpu(&mut s, Mpidr(0x10f));
+    let _ = calls::add_vcpu(&mut s, Mpidr(0x3));
+    let _ = calls::add_vcpu(&mut s, Mpidr(0x20000));
     say(out, b"lookup of 3, 10f, 20000, 4:")?;
     say_index(out, &s, Mpidr(0x3))?;
     say_index(out, &s, Mpidr(0x10f))?;
@@ -180,7 +167,7 @@ fn lookups(out: &mut impl Write) -> io::Result<()> {
 fn refused_adds(out: &mut impl Write) -> io::Result<()> {
     let mut s = [0u32; 1760];
     say(out, b"add: 10, ff, 1000000, ffffffff, ffff0f, again, 10:")?;
-    calls::make(&mut s);
+    let _ = calls::make(&mut s);
     say_add(out, &mut s, 0x10)?;
     say_add(out, &mut s, 0xff)?;
     say_add(out, &mut s, 0x0100_0000)?;
@@ -190,7 +177,7 @@ fn refused_adds(out: &mut impl Write) -> io::Result<()> {
     say_add(out, &mut s, 0x10)?;
     say_words(out, &s)?;
     say(out, b"initialised: bad, used, free:")?;
-    calls::set_attribute(&mut s, 4, 0, 0);
+    let _ = calls::set_attribute(&mut s, 4, 0, 0);
     say_add(out, &mut s, 0x10)?;
     say_add(out, &mut s, 0x00ff_ff0f)?;
     say_add(out, &mut s, 1)?;
@@ -200,45 +187,45 @@ fn refused_adds(out: &mut impl Write) -> io::Result<()> {
 fn refused_counts(out: &mut impl Write) -> io::Result<()> {
     let mut s = [0u32; 1760];
     say(out, b"count set: 32, 64, 128:")?;
-    calls::make(&mut s);
-    calls::set_attribute(&mut s, 3, 0, 64);
-    say_signed(out, calls::set_attribute(&mut s, 3, 0, 32))?;
-    say_signed(out, calls::set_attribute(&mut s, 3, 0, 64))?;
-    say_signed(out, calls::set_attribute(&mut s, 3, 0, 128))?;
+    let _ = calls::make(&mut s);
+    let _ = calls::set_attribute(&mut s, 3, 0, 64);
+    say_written(out, calls::set_attribute(&mut s, 3, 0, 32))?;
+    say_written(out, calls::set_attribute(&mut s, 3, 0, 64))?;
+    say_written(out, calls::set_attribute(&mut s, 3, 0, 128))?;
     say_words(out, &s)?;
     say(out, b"initialised: 32, 64, 128:")?;
-    calls::add_vcpu(&mut s, Mpidr(0));
-    calls::set_attribute(&mut s, 4, 0, 0);
-    say_signed(out, calls::set_attribute(&mut s, 3, 0, 32))?;
-    say_signed(out, calls::set_attribute(&mut s, 3, 0, 64))?;
-    say_signed(out, calls::set_attribute(&mut s, 3, 0, 128))?;
+    let _ = calls::add_vcpu(&mut s, Mpidr(0));
+    let _ = calls::set_attribute(&mut s, 4, 0, 0);
+    say_written(out, calls::set_attribute(&mut s, 3, 0, 32))?;
+    say_written(out, calls::set_attribute(&mut s, 3, 0, 64))?;
+    say_written(out, calls::set_attribute(&mut s, 3, 0, 128))?;
     say_words(out, &s)
 }
 
 fn refused_initialise(out: &mut impl Write) -> io::Result<()> {
     let mut s = [0u32; 1760];
     say(out, b"no vCPU: get 0, set 1, set 100000000, set 0:")?;
-    calls::make(&mut s);
-    say_signed(out, calls::get_attribute(&s, 4, 0))?;
-    say_signed(out, calls::set_attribute(&mut s, 4, 1, 0))?;
-    say_signed(out, calls::set_attribute(&mut s, 4, 0x1_0000_0000, 0))?;
-    say_signed(out, calls::set_attribute(&mut s, 4, 0, 0))?;
+    let _ = calls::make(&mut s);
+    say_written(out, calls::get_attribute(&s, 4, 0))?;
+    say_written(out, calls::set_attribute(&mut s, 4, 1, 0))?;
+    say_written(out, calls::set_attribute(&mut s, 4, 0x1_0000_0000, 0))?;
+    say_written(out, calls::set_attribute(&mut s, 4, 0, 0))?;
     say_words(out, &s)?;
     say(out, b"initialised: get 0, set 1, set 0:")?;
-    calls::add_vcpu(&mut s, Mpidr(0));
-    calls::set_attribute(&mut s, 4, 0, 0);
-    say_signed(out, calls::get_attribute(&s, 4, 0))?;
-    say_signed(out, calls::set_attribute(&mut s, 4, 1, 0))?;
-    say_signed(out, calls::set_attribute(&mut s, 4, 0, 0))?;
+    let _ = calls::add_vcpu(&mut s, Mpidr(0));
+    let _ = calls::set_attribute(&mut s, 4, 0, 0);
+    say_written(out, calls::get_attribute(&s, 4, 0))?;
+    say_written(out, calls::set_attribute(&mut s, 4, 1, 0))?;
+    say_written(out, calls::set_attribute(&mut s, 4, 0, 0))?;
     say_words(out, &s)
 }
 
 fn running_flags(out: &mut impl Write) -> io::Result<()> {
     let mut s = [0u32; 1760];
     say(out, b"not initialised: run 0, run 5:")?;
-    calls::make(&mut s);
-    calls::set_attribute(&mut s, 3, 0, 64);
-    calls::add_vcpu(&mut s, Mpidr(3));
+    let _ = calls::make(&mut s);
+    let _ = calls::set_attribute(&mut s, 3, 0, 64);
+    let _ = calls::add_vcpu(&mut s, Mpidr(3));
     say_run(out, &mut s, 0)?;
     say_run(out, &mut s, 5)?;
     say_words(out, &s)?;
@@ -246,7 +233,7 @@ fn running_flags(out: &mut impl Write) -> io::Result<()> {
         out,
         b"initialised: run 0, run 1, run 3, run ffffffffffffffff:",
     )?;
-    calls::set_attribute(&mut s, 4, 0, 0);
+    let _ = calls::set_attribute(&mut s, 4, 0, 0);
     say_run(out, &mut s, 0)?;
     say_run(out, &mut s, 1)?;
     say_run(out, &mut s, 3)?;
@@ -254,35 +241,35 @@ fn running_flags(out: &mut impl Write) -> io::Result<()> {
     say_words(out, &s)?;
     say(out, b"run again, stop, stop again:")?;
     say_run(out, &mut s, 0)?;
-    say_signed(out, calls::set_running(&mut s, VcpuIndex(0), false))?;
-    say_signed(out, calls::set_running(&mut s, VcpuIndex(0), false))?;
+    say_written(out, calls::set_running(&mut s, VcpuIndex(0), false))?;
+    say_written(out, calls::set_running(&mut s, VcpuIndex(0), false))?;
     say_words(out, &s)
 }
 
 fn run_one_of_three(out: &mut impl Write) -> io::Result<()> {
     let mut s = [0u32; 1760];
     say(out, b"three vCPUs: run 1, run 2, stop 1, stop 0:")?;
-    calls::make(&mut s);
-    calls::set_attribute(&mut s, 3, 0, 64);
-    calls::add_vcpu(&mut s, Mpidr(0));
-    calls::add_vcpu(&mut s, Mpidr(1));
-    calls::add_vcpu(&mut s, Mpidr(2));
-    calls::set_attribute(&mut s, 4, 0, 0);
+    let _ = calls::make(&mut s);
+    let _ = calls::set_attribute(&mut s, 3, 0, 64);
+    let _ = calls::add_vcpu(&mut s, Mpidr(0));
+    let _ = calls::add_vcpu(&mut s, Mpidr(1));
+    let _ = calls::add_vcpu(&mut s, Mpidr(2));
+    let _ = calls::set_attribute(&mut s, 4, 0, 0);
     say_run(out, &mut s, 1)?;
     say_run(out, &mut s, 2)?;
-    say_signed(out, calls::set_running(&mut s, VcpuIndex(1), false))?;
-    say_signed(out, calls::set_running(&mut s, VcpuIndex(0), false))?;
+    say_written(out, calls::set_running(&mut s, VcpuIndex(1), false))?;
+    say_written(out, calls::set_running(&mut s, VcpuIndex(0), false))?;
     say_words(out, &s)
 }
 
 fn eight_initialised(out: &mut impl Write) -> io::Result<()> {
     let mut s = eight_vcpus();
-    calls::set_attribute(&mut s, 4, 0, 0);
+    let _ = calls::set_attribute(&mut s, 4, 0, 0);
     say(out, b"eight, initialised: bad, used, free, get 7:")?;
     say_add(out, &mut s, 0x10)?;
     say_add(out, &mut s, 0x700)?;
     say_add(out, &mut s, 0x0f)?;
-    say_signed(out, calls::get_attribute(&s, 4, 7))?;
+    say_written(out, calls::get_attribute(&s, 4, 7))?;
     say(out, b"\n")
 }
 
@@ -297,9 +284,9 @@ fn fault_first(out: &mut impl Write) -> io::Result<()> {
     say_add(out, &mut s, 0x10)?;
     say_add(out, &mut s, 0)?;
     say_run(out, &mut s, 9)?;
-    say_signed(out, calls::set_attribute(&mut s, 3, 0, 32))?;
-    say_signed(out, calls::set_attribute(&mut s, 4, 1, 0))?;
-    say_signed(out, calls::get_attribute(&s, 4, 7))?;
+    say_written(out, calls::set_attribute(&mut s, 3, 0, 32))?;
+    say_written(out, calls::set_attribute(&mut s, 4, 1, 0))?;
+    say_written(out, calls::get_attribute(&s, 4, 7))?;
     say_words(out, &s)
 }
 
@@ -456,46 +443,39 @@ const WHOLE: [[u32; 3]; 11] = [
     [276, 0, 0xffffffff],
 ];
 
-fn same_words(a: &[u32], b: &[u32]) -> bool {
-    a == b
-}
-
 // The answers of every call but make, and whether the words are those of `before`.
 fn say_calls(out: &mut impl Write, s: &mut [u32], before: &[u32]) -> io::Result<()> {
-    say_signed(out, calls::add_vcpu(s, Mpidr(2)))?;
-    say_signed(out, calls::set_running(s, VcpuIndex(0), true))?;
-    say_signed(out, calls::set_attribute(s, 3, 0, 64))?;
-    say_signed(out, calls::get_attribute(s, 3, 0))?;
-    say_signed(out, calls::set_attribute(s, 4, 0, 0))?;
-    say_signed(out, calls::get_attribute(s, 4, 0))?;
-    if same_words(s, before) {
-        say(out, b" kept\n")?;
+    say_written(out, calls::add_vcpu(s, Mpidr(2)))?;
+    say_written(out, calls::set_running(s, VcpuIndex(0), true))?;
+    say_written(out, calls::set_attribute(s, 3, 0, 64))?;
+    say_written(out, calls::get_attribute(s, 3, 0))?;
+    say_written(out, calls::set_attribute(s, 4, 0, 0))?;
+    say_written(out, calls::get_attribute(s, 4, 0))?;
+    if &*s == before {
+        say(out, b" kept\n")
     } else {
-        say(out, b" changed\n")?;
+        say(out, b" changed\n")
     }
-    Ok(())
 }
 
 fn store(s: &mut [u32], at: usize, word: u32) {
-    if at < s.len() {
-        s[at] = word;
+    if let Some(place) = s.get_mut(at) {
+        *place = word;
     }
 }
 
 // One place of a sound state: the count that it gives with the row's first value there, and every call's answer with its second there.
 fn place_case(out: &mut impl Write, state: [u32; 1760], row: [u32; 3]) -> io::Result<()> {
     let mut s = state;
-    let at = row[0] as usize;
-    let first = row[1];
-    let second = row[2];
-    store(&mut s, at, first);
-    say_decimal(out, at as u64)?;
-    say_hex(out, first as u64)?;
+    let [at, first, second] = row;
+    store(&mut s, at as usize, first);
+    say_decimal(out, u64::from(at))?;
+    say_hex(out, u64::from(first))?;
     say(out, b":")?;
-    say_signed(out, calls::get_attribute(&s, 3, 0))?;
-    store(&mut s, at, second);
+    say_written(out, calls::get_attribute(&s, 3, 0))?;
+    store(&mut s, at as usize, second);
     let before = s;
-    say_hex(out, second as u64)?;
+    say_hex(out, u64::from(second))?;
     say(out, b":")?;
     say_calls(out, &mut s, &before)
 }
@@ -510,45 +490,40 @@ fn place_cases(out: &mut impl Write, state: [u32; 1760], rows: &[[u32; 3]]) -> i
 // A device of count 64 and one vCPU.
 fn one_vcpu() -> [u32; 1760] {
     let mut s = [0u32; 1760];
-    calls::make(&mut s);
-    calls::set_attribute(&mut s, 3, 0, 64);
-    calls::add_vcpu(&mut s, Mpidr(0));
+    let _ = calls::make(&mut s);
+    let _ = calls::set_attribute(&mut s, 3, 0, 64);
+    let _ = calls::add_vcpu(&mut s, Mpidr(0));
     s
 }
 
 // A device of count 1024 and eight vCPUs.
 fn eight_vcpus() -> [u32; 1760] {
     let mut s = [0u32; 1760];
-    calls::make(&mut s);
-    calls::set_attribute(&mut s, 3, 0, 1024);
-    calls::add_vcpu(&mut s, Mpidr(0));
-    calls::add_vcpu(&mut s, Mpidr(0x100));
-    calls::add_vcpu(&mut s, Mpidr(0x200));
-    calls::add_vcpu(&mut s, Mpidr(0x300));
-    calls::add_vcpu(&mut s, Mpidr(0x400));
-    calls::add_vcpu(&mut s, Mpidr(0x500));
-    calls::add_vcpu(&mut s, Mpidr(0x600));
-    calls::add_vcpu(&mut s, Mpidr(0x700));
+    let _ = calls::make(&mut s);
+    let _ = calls::set_attribute(&mut s, 3, 0, 1024);
+    for mpidr in (0..8).map(|n| Mpidr(n << 8)) {
+        let _ = calls::add_vcpu(&mut s, mpidr);
+    }
     s
 }
 
 fn used_words(out: &mut impl Write) -> io::Result<()> {
     let mut s = one_vcpu();
-    calls::set_attribute(&mut s, 4, 0, 0);
+    let _ = calls::set_attribute(&mut s, 4, 0, 0);
     say(out, b"count 64, one vCPU, initialised\n")?;
     place_cases(out, s, &USED)
 }
 
 fn whole_words(out: &mut impl Write) -> io::Result<()> {
     let mut s = one_vcpu();
-    calls::set_attribute(&mut s, 4, 0, 0);
+    let _ = calls::set_attribute(&mut s, 4, 0, 0);
     say(out, b"words that may have every bit\n")?;
     place_cases(out, s, &WHOLE)
 }
 
 fn full_words(out: &mut impl Write) -> io::Result<()> {
     let mut s = eight_vcpus();
-    calls::set_attribute(&mut s, 4, 0, 0);
+    let _ = calls::set_attribute(&mut s, 4, 0, 0);
     say(out, b"count 1024, eight vCPUs, initialised\n")?;
     place_cases(out, s, &FULL)
 }
@@ -565,7 +540,7 @@ fn added_words(out: &mut impl Write) -> io::Result<()> {
 
 fn empty_words(out: &mut impl Write) -> io::Result<()> {
     let mut s = [0u32; 1760];
-    calls::make(&mut s);
+    let _ = calls::make(&mut s);
     say(out, b"just made\n")?;
     place_cases(out, s, &EMPTY)
 }
@@ -577,7 +552,7 @@ fn length_case(out: &mut impl Write, s: &mut [u32], before: &[u32]) -> io::Resul
     say(out, b"length ")?;
     say_decimal(out, s.len() as u64)?;
     say(out, b":")?;
-    say_signed(out, calls::make(s))?;
+    say_written(out, calls::make(s))?;
     say_calls(out, s, before)
 }
 

@@ -1,28 +1,37 @@
 // The numbers that a call is given, and what the state says of them: which vCPU has an affinity, whether it runs, which SPIs exist.
-ghost use Rattle.std.specs.Prelude.{◌≡◌, ◌≤◌, ◌<◌, eqb, length};
-ghost use Rattle.model.specs.Words.{lowest, all_below};
-ghost use Rattle.model.specs.Layout.{state_length, most_vcpus, vcpus, affinity, running};
+ghost use Rattle.std.specs.Prelude.{◌≡◌, ◌≤◌, ◌<◌, eqb};
+ghost use Rattle.model.specs.Words.{all_below};
+ghost use Rattle.model.specs.Layout.{most_vcpus, vcpus, affinity, running};
 ghost use Rattle.model.specs.Interrupts.{ids_below, is_spi};
 ghost use Rattle.model.specs.Sound.{is_count, is_affinity, unused, stopped};
-ghost use Rattle.state.specs.Lookup.{found};
+ghost use Rattle.state.specs.Lookup.{first_with, found};
 
 use crate::parts::block_at;
-use model::layout::{AFFINITY, COUNT, INITIALISED, RUNNING, VCPUS};
+use model::layout::{AFFINITY, COUNT, INITIALISED, RUNNING, State, VCPUS};
 
 // The index of a vCPU, from 0 up in the order added.
-#[derive(Clone, Copy)]
+#[derive(Clone, Copy, Debug, PartialEq, Eq)]
 pub struct VcpuIndex(pub usize);
 
-// An affinity Aff3.Aff2.Aff1.Aff0 as one number.
+// A vCPU that the state has a block for, by its index.
 #[derive(Clone, Copy)]
-pub struct Mpidr(pub u32);
-
-// What lookup of an affinity finds.
-#[derive(Clone, Copy)]
-pub enum Found {
-    At(VcpuIndex),
-    Nowhere,
+pub struct Vcpu {
+    pub index: usize,
+    ghost has_block: { index < most_vcpus },
 }
+
+impl Vcpu {
+    pub fn at(v: VcpuIndex) -> Vcpu
+        requires { v.0 < most_vcpus }
+        ensures { result.index ≡ v.0 }
+    {
+        Vcpu { index: v.0 }
+    }
+}
+
+// An affinity Aff3.Aff2.Aff1.Aff0 as one number.
+#[derive(Clone, Copy, Debug, PartialEq, Eq)]
+pub struct Mpidr(pub u32);
 
 // ---- numbers that a call is given
 
@@ -46,12 +55,11 @@ pub fn is_count(c: u64) -> bool
 pub fn ids_below(count: u32) -> usize
     ensures { result ≡ ids_below count }
 {
-    if count < 1020 { count as usize } else { 1020 }
+    (count as usize).min(1020)
 }
 
 // Whether the ID is an SPI that exists.
-pub fn is_spi(s: &[u32], id: usize) -> bool
-    requires { length s.now ≡ state_length }
+pub fn is_spi(s: &State, id: usize) -> bool
     ensures { result ≡ is_spi s.now id }
 {
     (32 <= id) & (id < ids_below(s[COUNT]))
@@ -59,54 +67,45 @@ pub fn is_spi(s: &[u32], id: usize) -> bool
 
 // ---- lookup
 
-// The first of `n` vCPUs that has the affinity, or `n`.
-fn first_with(s: &[u32], mpidr: Mpidr, n: usize) -> usize
-    requires { (length s.now ≡ state_length) × (n ≤ most_vcpus) }
-    ensures { (result ≡ lowest (λ v. eqb (affinity s.now v) mpidr.0) n 0) × (result ≤ n) }
+// The first of `n` vCPUs that has the affinity.
+fn first_with(s: &State, mpidr: Mpidr, n: usize) -> Option<VcpuIndex>
+    requires { n ≤ most_vcpus }
+    ensures { result ≡ first_with s.now mpidr.0 n }
 {
-    let mut v: usize = 0;
-    while v < n {
-        if affinity_of(s, VcpuIndex(v)).0 == mpidr.0 {
-            return v;
+    for v in 0..n {
+        if affinity_of(s, Vcpu { index: v }) == mpidr {
+            return Some(VcpuIndex(v));
         }
-        v += 1;
     }
-    v
+    None
 }
 
 // None of the first `n` vCPUs has the affinity.
-pub fn is_unused(s: &[u32], mpidr: Mpidr, n: usize) -> bool
-    requires { (length s.now ≡ state_length) × (n ≤ most_vcpus) }
+pub fn is_unused(s: &State, mpidr: Mpidr, n: usize) -> bool
+    requires { n ≤ most_vcpus }
     ensures { result ≡ unused s.now mpidr.0 n }
 {
-    first_with(s, mpidr, n) == n
+    first_with(s, mpidr, n).is_none()
 }
 
 // The vCPU that has an affinity.
-pub fn index_of(s: &[u32], mpidr: Mpidr) -> Found
-    requires { (length s.now ≡ state_length) × (vcpus s.now ≤ most_vcpus) }
+pub fn index_of(s: &State, mpidr: Mpidr) -> Option<VcpuIndex>
+    requires { vcpus s.now ≤ most_vcpus }
     ensures { result ≡ found s.now mpidr.0 }
 {
-    let n = s[VCPUS] as usize;
-    let v = first_with(s, mpidr, n);
-    if v < n {
-        return Found::At(VcpuIndex(v));
-    }
-    Found::Nowhere
+    first_with(s, mpidr, s[VCPUS] as usize)
 }
 
 // The affinity of vCPU `v`.
-pub fn affinity_of(s: &[u32], v: VcpuIndex) -> Mpidr
-    requires { (length s.now ≡ state_length) × (v.0 < most_vcpus) }
-    ensures { result.0 ≡ affinity s.now v.0 }
+pub fn affinity_of(s: &State, v: Vcpu) -> Mpidr
+    ensures { result.0 ≡ affinity s.now v.index }
 {
     Mpidr(s[block_at(v) + AFFINITY])
 }
 
 // Whether vCPU `v` runs: 1, or 0.
-pub fn running_of(s: &[u32], v: VcpuIndex) -> u32
-    requires { (length s.now ≡ state_length) × (v.0 < most_vcpus) }
-    ensures { result ≡ running s.now v.0 }
+pub fn running_of(s: &State, v: Vcpu) -> u32
+    ensures { result ≡ running s.now v.index }
 {
     s[block_at(v) + RUNNING]
 }
@@ -114,22 +113,20 @@ pub fn running_of(s: &[u32], v: VcpuIndex) -> u32
 // ---- a stopped device
 
 // Whether none of `n` vCPUs runs.
-fn none_runs(s: &[u32], n: usize) -> bool
-    requires { (length s.now ≡ state_length) × (n ≤ most_vcpus) }
+fn none_runs(s: &State, n: usize) -> bool
+    requires { n ≤ most_vcpus }
     ensures { result ≡ all_below (λ v. eqb (running s.now v) 0) n }
 {
     let mut none = true;
-    let mut v: usize = 0;
-    while v < n {
-        none = (running_of(s, VcpuIndex(v)) == 0) & none;
-        v += 1;
+    for v in 0..n {
+        none &= running_of(s, Vcpu { index: v }) == 0;
     }
     none
 }
 
 // Whether the device is initialised and no vCPU runs.
-pub fn is_stopped(s: &[u32]) -> bool
-    requires { (length s.now ≡ state_length) × (vcpus s.now ≤ most_vcpus) }
+pub fn is_stopped(s: &State) -> bool
+    requires { vcpus s.now ≤ most_vcpus }
     ensures { result ≡ stopped s.now }
 {
     let none = none_runs(s, s[VCPUS] as usize);

@@ -1,20 +1,19 @@
 // The parts of the state that are lent on as `&mut`: a vCPU's block, a bank, a route; their places, and the stores into them.
 ghost use Rattle.std.specs.Prelude.{◌≡◌, ◌+◌, ◌*◌, ◌≤◌, ◌<◌, length, set};
-ghost use Rattle.model.specs.Layout.{state_length, most_vcpus, block, bank, route_at};
+ghost use Rattle.model.specs.Layout.{most_vcpus, block, bank, route_at};
 ghost use Rattle.model.specs.Interrupts.{set_flag};
 
-use crate::lookup::VcpuIndex;
-use model::layout::{BANK_LENGTH, BANKS, BLOCK_LENGTH, BLOCKS, ROUTES};
+use crate::lookup::Vcpu;
+use model::layout::{BANK_LENGTH, BANKS, BLOCK_LENGTH, BLOCKS, ROUTES, State};
 use words::with_bit;
 
 // ---- places
 
 // Where the block of vCPU `v` starts.
-pub fn block_at(v: VcpuIndex) -> usize
-    requires { v.0 < most_vcpus }
-    ensures { (result ≡ block v.0) × (result + 32 ≤ 272) }
+pub fn block_at(v: Vcpu) -> usize
+    ensures { (result ≡ block v.index) × (result + 32 ≤ 272) }
 {
-    BLOCKS + BLOCK_LENGTH * v.0
+    BLOCKS + BLOCK_LENGTH * v.index
 }
 
 // Where the bank of the SPIs 32w to 32w + 31 starts.
@@ -26,14 +25,11 @@ pub fn spi_bank_at(w: usize) -> usize
 }
 
 // Where the bank of the interrupts 32w to 32w + 31 starts, as vCPU `v` sees it.
-pub fn bank_at(v: VcpuIndex, w: usize) -> usize
-    requires { (v.0 < most_vcpus) × (w < 32) }
-    ensures { (result ≡ bank v.0 w) × (result + 16 ≤ 768) }
+pub fn bank_at(v: Vcpu, w: usize) -> usize
+    requires { w < 32 }
+    ensures { (result ≡ bank v.index w) × (result + 16 ≤ 768) }
 {
-    if w == 0 {
-        return block_at(v);
-    }
-    spi_bank_at(w)
+    if w == 0 { block_at(v) } else { spi_bank_at(w) }
 }
 
 // ---- stores
@@ -55,9 +51,9 @@ fn store_in(s: &mut [u32], at: usize, n: usize, j: usize, x: u32)
 }
 
 // Stores word `j` of the block of vCPU `v`, after its bank.
-pub fn put_in_block(s: &mut [u32], v: VcpuIndex, j: usize, x: u32)
-    requires { (length s.old ≡ state_length) × (v.0 < most_vcpus) × (16 ≤ j) × (j < 32) }
-    ensures { s.new ≡ set s.old (block v.0 + j) x }
+pub fn put_in_block(s: &mut State, v: Vcpu, j: usize, x: u32)
+    requires { (16 ≤ j) × (j < 32) }
+    ensures { s.new ≡ set s.old (block v.index + j) x }
 {
     store_in(s, block_at(v), BLOCK_LENGTH, j, x);
 }
@@ -71,25 +67,25 @@ pub fn store_of_interrupts(s: &mut [u32], at: usize, n: usize, j: usize, x: u32)
 }
 
 // Stores word `j` of the bank of the interrupts 32w to 32w + 31, as vCPU `v` sees it.
-pub fn put_in_bank(s: &mut [u32], v: VcpuIndex, w: usize, j: usize, x: u32)
-    requires { (length s.old ≡ state_length) × (v.0 < most_vcpus) × (w < 32) × (j < 16) }
-    ensures { s.new ≡ set s.old (bank v.0 w + j) x }
+pub fn put_in_bank(s: &mut State, v: Vcpu, w: usize, j: usize, x: u32)
+    requires { (w < 32) × (j < 16) }
+    ensures { s.new ≡ set s.old (bank v.index w + j) x }
 {
     store_of_interrupts(s, bank_at(v, w), BANK_LENGTH, j, x);
 }
 
 // Stores the route of the SPI `id`.
-pub fn put_route(s: &mut [u32], id: usize, x: u32)
-    requires { (length s.old ≡ state_length) × (32 ≤ id) × (id < 1020) }
+pub fn put_route(s: &mut State, id: usize, x: u32)
+    requires { (32 ≤ id) × (id < 1020) }
     ensures { s.new ≡ set s.old (route_at id) x }
 {
     store_of_interrupts(s, ROUTES + (id - 32), 1, 0, x);
 }
 
 // Makes the flag in word `k` of the bank of interrupt `id`, as vCPU `v` sees it, `on`.
-pub fn put_flag(s: &mut [u32], k: usize, on: bool, v: VcpuIndex, id: usize)
-    requires { (length s.old ≡ state_length) × (k < 16) × (v.0 < most_vcpus) × (id < 1024) }
-    ensures { s.new ≡ set_flag k on v.0 id s.old }
+pub fn put_flag(s: &mut State, k: usize, on: bool, v: Vcpu, id: usize)
+    requires { (k < 16) × (id < 1024) }
+    ensures { s.new ≡ set_flag k on v.index id s.old }
 {
     let w = id / 32;
     let old = s[bank_at(v, w) + k];

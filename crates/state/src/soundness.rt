@@ -5,12 +5,12 @@ ghost use Rattle.model.specs.Layout.{state_length, most_vcpus, vcpus};
 ghost use Rattle.model.specs.Sound.{used_bits, fresh_bits, fits, word_ok, setup, vcpu_ok, sound, fresh};
 ghost use Rattle.state.specs.Clear.{Apart, Clear, Joins};
 
-use crate::lookup::{VcpuIndex, affinity_of, is_count, is_unused, wide};
+use crate::lookup::{Vcpu, affinity_of, is_count, is_unused, wide};
 use crate::masks;
 use crate::parts::block_at;
 use model::layout::{
     BANK_LENGTH, BANKS, BLOCK_LENGTH, BLOCKS, BPR0, BPR1, COUNT, EDGES, INITIALISED, LEAST_BPR0,
-    LEAST_BPR1, MOST_VCPUS, ROUTES, STATE_LENGTH, VCPUS,
+    LEAST_BPR1, MOST_VCPUS, ROUTES, STATE_LENGTH, State, VCPUS,
 };
 use model::values::EDGE_BITS;
 
@@ -28,12 +28,11 @@ fn setup_ok(initialised: usize, count: usize, n: usize) -> bool
 }
 
 // The SGIs of vCPU `v` are edge, BPR0 and BPR1 have at least their least values, and no earlier vCPU has its affinity.
-fn vcpu_ok(s: &[u32], v: VcpuIndex) -> bool
-    requires { (length s.now ≡ state_length) × (v.0 < most_vcpus) }
-    ensures { result ≡ vcpu_ok s.now v.0 }
+fn vcpu_ok(s: &State, v: Vcpu) -> bool
+    ensures { result ≡ vcpu_ok s.now v.index }
 {
     let block = block_at(v);
-    let unused = is_unused(s, affinity_of(s, v), v.0);
+    let unused = is_unused(s, affinity_of(s, v), v.index);
     (s[block + EDGES] == EDGE_BITS)
         & (LEAST_BPR0 <= s[block + BPR0])
         & (LEAST_BPR1 <= s[block + BPR1])
@@ -41,15 +40,13 @@ fn vcpu_ok(s: &[u32], v: VcpuIndex) -> bool
 }
 
 // The same for each of `n` vCPUs.
-fn vcpus_ok(s: &[u32], n: usize) -> bool
-    requires { (length s.now ≡ state_length) × (n ≤ most_vcpus) }
+fn vcpus_ok(s: &State, n: usize) -> bool
+    requires { n ≤ most_vcpus }
     ensures { result ≡ all_below (vcpu_ok s.now) n }
 {
     let mut ok = true;
-    let mut v: usize = 0;
-    while v < n {
-        ok = vcpu_ok(s, VcpuIndex(v)) & ok;
-        v += 1;
+    for v in 0..n {
+        ok &= vcpu_ok(s, Vcpu { index: v });
     }
     ok
 }
@@ -57,62 +54,58 @@ fn vcpus_ok(s: &[u32], n: usize) -> bool
 // ---- the bits of every word
 
 // The bits that the words of `s` from `at` on share with those of `row`, joined.
-fn misfit_row(s: &[u32], at: usize, row: &[u32]) -> u32
-    requires { (length s.now ≡ state_length) × (at + length row.now ≤ state_length) }
+fn misfit_row(s: &State, at: usize, row: &[u32]) -> u32
+    requires { at + length row.now ≤ state_length }
     ensures { Clear (Apart s.now row.now at) at (at + length row.now) result }
 {
     let mut joined: u32 = 0;
-    let mut j: usize = 0;
-    while j < row.len() {
-        joined = joined | (s[at + j] & row[j]);
-        j += 1;
+    for (j, bits) in row.iter().enumerate() {
+        joined |= s[at + j] & bits;
     }
     joined
 }
 
 // The same from `a` up to `e`, a row after the other. No branch in the loops: LLVM unrolls the row and makes vector code of it.
-fn misfit(s: &[u32], a: usize, e: usize, row: &[u32]) -> u32
-    requires { (length s.now ≡ state_length) × (a ≤ e) × (e ≤ state_length) × ((e - a) % length row.now ≡ 0) }
+fn misfit(s: &State, a: usize, e: usize, row: &[u32]) -> u32
+    requires { (a ≤ e) × (e ≤ state_length) × ((e - a) % length row.now ≡ 0) }
     ensures { Clear (Apart s.now row.now a) a e result }
 {
     let mut joined: u32 = 0;
     let mut i = a;
     while i < e {
-        joined = joined | misfit_row(s, i, row);
+        joined |= misfit_row(s, i, row);
         i += row.len();
     }
     joined
 }
 
 // The words of `s` from `a` up to `e`, joined: two halves in one loop, of which LLVM makes vector code with twice the words to a turn.
-fn join_words(s: &[u32], a: usize, e: usize) -> u32
-    requires { (length s.now ≡ state_length) × (a ≤ e) × (e ≤ state_length) × ((e - a) % 2 ≡ 0) }
+fn join_words(s: &State, a: usize, e: usize) -> u32
+    requires { (a ≤ e) × (e ≤ state_length) × ((e - a) % 2 ≡ 0) }
     ensures { Joins s.now a e result }
 {
     let half = (e - a) / 2;
     let b = a + half;
     let mut low: u32 = 0;
     let mut high: u32 = 0;
-    let mut i: usize = 0;
-    while i < half {
-        low = low | s[a + i];
-        high = high | s[b + i];
-        i += 1;
+    for i in 0..half {
+        low |= s[a + i];
+        high |= s[b + i];
     }
     low | high
 }
 
 // The bits that the words from `a` up to `e` share with `bits`, the same for each of them, joined.
-fn misfit_words(s: &[u32], a: usize, e: usize, bits: u32) -> u32
-    requires { (length s.now ≡ state_length) × (a ≤ e) × (e ≤ state_length) × ((e - a) % 2 ≡ 0) }
+fn misfit_words(s: &State, a: usize, e: usize, bits: u32) -> u32
+    requires { (a ≤ e) × (e ≤ state_length) × ((e - a) % 2 ≡ 0) }
     ensures { Clear (Apart s.now (bits ∷ []) a) a e result }
 {
     join_words(s, a, e) & bits
 }
 
 // Each word has only the bits that it may have in an initialised device.
-fn used_fits(s: &[u32], count: usize, n: usize) -> bool
-    requires { (length s.now ≡ state_length) × (64 ≤ count) × (count ≤ 1024) × (count % 32 ≡ 0) × (n ≤ most_vcpus) }
+fn used_fits(s: &State, count: usize, n: usize) -> bool
+    requires { (64 ≤ count) × (count ≤ 1024) × (count % 32 ≡ 0) × (n ≤ most_vcpus) }
     ensures { result ≡ every (λ k w. fits w (used_bits count n k)) 0 s.now }
 {
     // 1 where the interrupts from 992 on exist, but for the last four: their bank has a row of its own.
@@ -133,8 +126,8 @@ fn used_fits(s: &[u32], count: usize, n: usize) -> bool
 }
 
 // Each word has only the bits that it may have in a fresh device.
-fn fresh_fits(s: &[u32], n: usize) -> bool
-    requires { (length s.now ≡ state_length) × (n ≤ most_vcpus) }
+fn fresh_fits(s: &State, n: usize) -> bool
+    requires { n ≤ most_vcpus }
     ensures { result ≡ every (λ k w. fits w (fresh_bits n k)) 0 s.now }
 {
     let blocks_end = BLOCKS + BLOCK_LENGTH * n;
@@ -147,8 +140,8 @@ fn fresh_fits(s: &[u32], n: usize) -> bool
 // ---- the whole state
 
 // Whether the device is just initialised.
-pub fn is_fresh(s: &[u32]) -> bool
-    requires { (length s.now ≡ state_length) × (vcpus s.now ≤ most_vcpus) }
+pub fn is_fresh(s: &State) -> bool
+    requires { vcpus s.now ≤ most_vcpus }
     ensures { result ≡ fresh s.now }
 {
     let fits = fresh_fits(s, s[VCPUS] as usize);
@@ -156,8 +149,8 @@ pub fn is_fresh(s: &[u32]) -> bool
 }
 
 // Each word has only the bits that it may have: the fresh ones before initialising.
-fn words_fit(s: &[u32], initialised: usize, count: usize, n: usize) -> bool
-    requires { (length s.now ≡ state_length) × (setup initialised count n ≡ true) }
+fn words_fit(s: &State, initialised: usize, count: usize, n: usize) -> bool
+    requires { setup initialised count n ≡ true }
     ensures { result ≡ every (word_ok initialised count n) 0 s.now }
 {
     if initialised == 0 {
@@ -171,9 +164,9 @@ fn words_fit(s: &[u32], initialised: usize, count: usize, n: usize) -> bool
 pub fn is_sound(s: &[u32]) -> bool
     ensures { result ≡ sound s.now }
 {
-    if s.len() != STATE_LENGTH {
+    let Some(s) = s.as_array() else {
         return false;
-    }
+    };
     let initialised = wide(s[INITIALISED]);
     let count = wide(s[COUNT]);
     let n = wide(s[VCPUS]);

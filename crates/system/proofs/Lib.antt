@@ -1,4 +1,3 @@
 -- The laws of the system registers.
 pub mod Registers
 pub mod Sgis
-pub mod Answered

@@ -1,8 +1,7 @@
 -- What a read or a write of a system register answers and leaves.
 use Rattle.std.specs.Prelude.{ℕ, List}
-use Rattle.model.specs.Refusals.{first_failing}
+use Rattle.model.specs.Refusals.{Answer, first_failing}
 use Rattle.model.specs.Calls.{read_checks, write_checks, system_value, system_read_state, system_write_state}
-use Rattle.model.specs.declared.Answer.{Answer}
 use Rattle.model.specs.declared.SystemRegister.{SystemRegister}
 use Rattle.priority.specs.Settled.{Settled}
 

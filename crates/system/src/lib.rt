@@ -5,36 +5,39 @@ pub mod decode;
 pub mod plain;
 mod sgi;
 
-ghost use Rattle.std.specs.Prelude.{◌≡◌, ◌<◌, ◌≤◌, length};
-ghost use Rattle.model.specs.Layout.{state_length, most_vcpus, vcpus};
-ghost use Rattle.model.specs.Interface.{read_group, write_group, group_in, system_write};
+ghost use Rattle.std.specs.Prelude.{◌≡◌, ◌≤◌};
+ghost use Rattle.model.specs.Layout.{most_vcpus, vcpus};
+ghost use Rattle.model.specs.Interface.{system_write};
 ghost use Rattle.model.specs.declared.SystemRegister.TheVariants.{Read};
 ghost use Rattle.priority.specs.Asked.{Usable};
 ghost use Rattle.system.specs.Answers.{Reads, Writes};
 
-use model::{Answer, By, Errno, Readable, SystemRegister, Writable};
+use model::layout::State;
+use model::{By, Errno, Readable, SystemRegister, Writable};
 use plain::{read_plain, write_plain};
 use priority::acknowledge::{acknowledge, highest_pending, running_priority};
 use priority::end::{deactivate, end};
 use sgi::send;
-use state::VcpuIndex;
+use state::Vcpu;
 
 // Reads a register that a guest only reads.
-fn read_only(s: &mut [u32], v: VcpuIndex, register: Readable) -> Answer
-    requires { Usable s.old v.0 × (read_group register < 2) }
-    ensures { Reads (Read register) v.0 s.old result s.new }
+#[tactic(auto, unfolding(model::specs::Calls::read_checks, model::specs::Refusals::first_failing, model::specs::Calls::system_value, model::specs::Calls::system_read_state, model::specs::Interface::system_read, model::specs::Interface::system_read_next, model::specs::Interface::system_read_clear))]
+fn read_only(s: &mut State, v: Vcpu, register: Readable) -> Result<u32, Errno>
+    requires { Usable s.old v.index }
+    ensures { Reads (Read register) v.index s.old result s.new }
 {
     match register {
         Readable::Iar(g) => acknowledge(s, v, g),
-        Readable::Hppir(g) => Answer::Value(highest_pending(s, v, g)),
-        Readable::Rpr => Answer::Value(running_priority(s, v)),
+        Readable::Hppir(g) => Ok(highest_pending(s, v, g)),
+        Readable::Rpr => Ok(running_priority(s, v)),
     }
 }
 
 // Writes a register that a guest only writes: the ID is in bits 23-0.
-fn write_only(s: &mut [u32], v: VcpuIndex, register: Writable, x: u64)
-    requires { (length s.old ≡ state_length) × (v.0 < most_vcpus) × (vcpus s.old ≤ most_vcpus) × (write_group register < 2) }
-    ensures { s.new ≡ system_write s.old v.0 register x }
+#[tactic(auto, unfolding(model::specs::Interface::system_write))]
+fn write_only(s: &mut State, v: Vcpu, register: Writable, x: u64)
+    requires { vcpus s.old ≤ most_vcpus }
+    ensures { s.new ≡ system_write s.old v.index register x }
 {
     match register {
         Writable::Eoir(g) => end(s, v, g, (x % 0x0100_0000) as usize),
@@ -45,33 +48,38 @@ fn write_only(s: &mut [u32], v: VcpuIndex, register: Writable, x: u64)
 }
 
 // A guest's read of a system register: refused where it is not listed for reading, or where an acknowledge finds its active-priority bit set.
-pub fn read_register(s: &mut [u32], v: VcpuIndex, register: SystemRegister) -> Answer
-    requires { Usable s.old v.0 × (group_in register < 2) }
-    ensures { Reads register v.0 s.old result s.new }
+#[tactic(auto, unfolding(model::specs::Calls::read_checks, model::specs::Refusals::first_failing, model::specs::Calls::system_value, model::specs::Calls::system_read_state))]
+pub fn read_register(s: &mut State, v: Vcpu, register: SystemRegister) -> Result<u32, Errno>
+    requires { Usable s.old v.index }
+    ensures { Reads register v.index s.old result s.new }
 {
     match register {
-        SystemRegister::Both(p) => Answer::Value(read_plain(s, By::Guest, v, p)),
+        SystemRegister::Both(p) => Ok(read_plain(s, By::Guest, v, p)),
         SystemRegister::Read(r) => read_only(s, v, r),
-        SystemRegister::Write(_) => Answer::Refused(Errno::Enxio),
-        SystemRegister::Unnamed => Answer::Refused(Errno::Enxio),
+        SystemRegister::Write(_) | SystemRegister::Unnamed => Err(Errno::Enxio),
     }
 }
 
 // A guest's write of a system register: refused where it is not listed for writing.
-pub fn write_register(s: &mut [u32], v: VcpuIndex, register: SystemRegister, x: u64) -> Answer
-    requires { (length s.old ≡ state_length) × (v.0 < most_vcpus) × (vcpus s.old ≤ most_vcpus) × (group_in register < 2) }
-    ensures { Writes register v.0 x s.old result s.new }
+#[tactic(auto, unfolding(model::specs::Calls::write_checks, model::specs::Refusals::first_failing, model::specs::Calls::system_write_state))]
+pub fn write_register(
+    s: &mut State,
+    v: Vcpu,
+    register: SystemRegister,
+    x: u64,
+) -> Result<u32, Errno>
+    requires { vcpus s.old ≤ most_vcpus }
+    ensures { Writes register v.index x s.old result s.new }
 {
     match register {
         SystemRegister::Both(p) => {
             write_plain(s, By::Guest, v, p, x);
-            Answer::Value(0)
+            Ok(0)
         }
         SystemRegister::Write(w) => {
             write_only(s, v, w, x);
-            Answer::Value(0)
+            Ok(0)
         }
-        SystemRegister::Read(_) => Answer::Refused(Errno::Enxio),
-        SystemRegister::Unnamed => Answer::Refused(Errno::Enxio),
+        SystemRegister::Read(_) | SystemRegister::Unnamed => Err(Errno::Enxio),
     }
 }

@@ -4,6 +4,7 @@
 ghost use Rattle.std.specs.Prelude.{[], ◌∷◌};
 ghost use Rattle.model.specs.Calls.{Does, call, make, add_vcpu, set_running, change_line, read_distributor, write_distributor, read_frame, write_frame, read_system, write_system, query_signal, get_attribute, set_attribute, save, restore};
 
+use calls::number_of;
 use state::{Mpidr, VcpuIndex};
 
 // ---- the calls that set a device up
@@ -13,7 +14,7 @@ use state::{Mpidr, VcpuIndex};
 pub extern "C" fn vgic_make(state: &mut [u32]) -> i64
     ensures { Does (call make state.old) result state.new [] }
 {
-    calls::make(state)
+    number_of(calls::make(state))
 }
 
 // Adds a vCPU with an affinity of its own.
@@ -21,7 +22,7 @@ pub extern "C" fn vgic_make(state: &mut [u32]) -> i64
 pub extern "C" fn vgic_add_vcpu(state: &mut [u32], mpidr: u32) -> i64
     ensures { Does (call (add_vcpu mpidr) state.old) result state.new [] }
 {
-    calls::add_vcpu(state, Mpidr(mpidr))
+    number_of(calls::add_vcpu(state, Mpidr(mpidr)))
 }
 
 // Marks a vCPU as running, or as stopped.
@@ -29,7 +30,7 @@ pub extern "C" fn vgic_add_vcpu(state: &mut [u32], mpidr: u32) -> i64
 pub extern "C" fn vgic_set_running(state: &mut [u32], v: usize, on: bool) -> i64
     ensures { Does (call (set_running v on) state.old) result state.new [] }
 {
-    calls::set_running(state, VcpuIndex(v), on)
+    number_of(calls::set_running(state, VcpuIndex(v), on))
 }
 
 // ---- the guest's accesses to memory-mapped registers, by the vCPU `v`
@@ -39,7 +40,7 @@ pub extern "C" fn vgic_set_running(state: &mut [u32], v: usize, on: bool) -> i64
 pub extern "C" fn vgic_read_distributor(state: &[u32], v: usize, offset: u64, size: u64) -> i64
     ensures { Does (call (read_distributor v offset size) state.now) result state.now [] }
 {
-    calls::read_distributor(state, VcpuIndex(v), offset, size)
+    number_of(calls::read_distributor(state, VcpuIndex(v), offset, size))
 }
 
 // Writes `size` bytes of the distributor.
@@ -53,7 +54,7 @@ pub extern "C" fn vgic_write_distributor(
 ) -> i64
     ensures { Does (call (write_distributor v offset size value) state.old) result state.new [] }
 {
-    calls::write_distributor(state, VcpuIndex(v), offset, size, value)
+    number_of(calls::write_distributor(state, VcpuIndex(v), offset, size, value))
 }
 
 // Reads `size` bytes of the redistributor frame of a vCPU.
@@ -67,7 +68,7 @@ pub extern "C" fn vgic_read_frame(
 ) -> i64
     ensures { Does (call (read_frame v frame offset size) state.now) result state.now [] }
 {
-    calls::read_frame(state, VcpuIndex(v), VcpuIndex(frame), offset, size)
+    number_of(calls::read_frame(state, VcpuIndex(v), VcpuIndex(frame), offset, size))
 }
 
 // Writes `size` bytes of the redistributor frame of a vCPU.
@@ -82,7 +83,7 @@ pub extern "C" fn vgic_write_frame(
 ) -> i64
     ensures { Does (call (write_frame v frame offset size value) state.old) result state.new [] }
 {
-    calls::write_frame(state, VcpuIndex(v), VcpuIndex(frame), offset, size, value)
+    number_of(calls::write_frame(state, VcpuIndex(v), VcpuIndex(frame), offset, size, value))
 }
 
 // ---- the guest's accesses to system registers, by the vCPU `v`, and its signal
@@ -92,7 +93,7 @@ pub extern "C" fn vgic_write_frame(
 pub extern "C" fn vgic_read_system(state: &mut [u32], v: usize, encoding: u64) -> i64
     ensures { Does (call (read_system v encoding) state.old) result state.new [] }
 {
-    calls::read_system(state, VcpuIndex(v), encoding)
+    number_of(calls::read_system(state, VcpuIndex(v), encoding))
 }
 
 // Writes the system register of an encoding.
@@ -100,7 +101,7 @@ pub extern "C" fn vgic_read_system(state: &mut [u32], v: usize, encoding: u64) -
 pub extern "C" fn vgic_write_system(state: &mut [u32], v: usize, encoding: u64, value: u64) -> i64
     ensures { Does (call (write_system v encoding value) state.old) result state.new [] }
 {
-    calls::write_system(state, VcpuIndex(v), encoding, value)
+    number_of(calls::write_system(state, VcpuIndex(v), encoding, value))
 }
 
 // 1 if IAR1, 2 if IAR0 would give vCPU `v` an interrupt, else 0.
@@ -108,7 +109,7 @@ pub extern "C" fn vgic_write_system(state: &mut [u32], v: usize, encoding: u64, 
 pub extern "C" fn vgic_query_signal(state: &[u32], v: usize) -> i64
     ensures { Does (call (query_signal v) state.now) result state.now [] }
 {
-    calls::query_signal(state, VcpuIndex(v))
+    number_of(calls::query_signal(state, VcpuIndex(v)))
 }
 
 // ---- lines
@@ -118,7 +119,7 @@ pub extern "C" fn vgic_query_signal(state: &[u32], v: usize) -> i64
 pub extern "C" fn vgic_change_line(state: &mut [u32], v: usize, id: usize, level: bool) -> i64
     ensures { Does (call (change_line v id level) state.old) result state.new [] }
 {
-    calls::change_line(state, VcpuIndex(v), id, level)
+    number_of(calls::change_line(state, VcpuIndex(v), id, level))
 }
 
 // ---- attributes
@@ -128,7 +129,7 @@ pub extern "C" fn vgic_change_line(state: &mut [u32], v: usize, id: usize, level
 pub extern "C" fn vgic_get_attribute(state: &[u32], group: u64, attribute: u64) -> i64
     ensures { Does (call (get_attribute group attribute) state.now) result state.now [] }
 {
-    calls::get_attribute(state, group, attribute)
+    number_of(calls::get_attribute(state, group, attribute))
 }
 
 // Sets an attribute of a group: of group 3 the interrupt count; of group 4 the device is initialised.
@@ -141,7 +142,7 @@ pub extern "C" fn vgic_set_attribute(
 ) -> i64
     ensures { Does (call (set_attribute group attribute value) state.old) result state.new [] }
 {
-    calls::set_attribute(state, group, attribute, value)
+    number_of(calls::set_attribute(state, group, attribute, value))
 }
 
 // ---- the record
@@ -151,7 +152,7 @@ pub extern "C" fn vgic_set_attribute(
 pub extern "C" fn vgic_save(state: &[u32], buf: &mut [u8], res: &mut i64)
     ensures { Does (call (save buf.old) state.now) res.new state.now (buf.new ∷ []) }
 {
-    *res = calls::fill(state, buf);
+    *res = number_of(calls::fill(state, buf));
 }
 
 // Restores the device of a record into a fresh one of the same count and affinities.
@@ -159,5 +160,5 @@ pub extern "C" fn vgic_save(state: &[u32], buf: &mut [u8], res: &mut i64)
 pub extern "C" fn vgic_restore(state: &mut [u32], bytes: &[u8]) -> i64
     ensures { Does (call (restore bytes.now) state.old) result state.new (bytes.now ∷ []) }
 {
-    calls::restore(state, bytes)
+    number_of(calls::restore(state, bytes))
 }

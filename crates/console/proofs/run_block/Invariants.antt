@@ -1,14 +1,12 @@
--- `console::run_block` meets its contract: what is left of the block, read from here, gives what the whole block gives.
-use Prim.Native.Nat.{◌*◌, ◌-◌, ◌≤◌}
-use mathlib.Core.Path.{◌≡◌}
-use lib.ListN.{length, drop}
-use Rattle.console.specs.Sessions.{block_read, stands}
+-- What is left of the block, read from here, gives what the whole block gives; each byte prints at most 24.
+use Rattle.std.proofs.Common.{◌≡◌, ◌+◌, ◌*◌, ◌≤◌, length, drop}
+use Rattle.arrayvec.specs.ArrayVec.{array_vec_len}
+use Rattle.console.specs.Sessions.{session_of, block_read}
 use Rattle.console.proofs.run_block.Given as goal
 
-abbrev pub invariant-loop-i : goal.invariant-loop-i
-invariant-loop-i l =
-    (l.i ≤ length l.block) × (l.kept ≤ 81) × (l.at ≤ 24 * l.i) × (length l.state ≡ length l.initial.state) × (length l.line ≡ length l.initial.line) × (length l.out ≡ length l.initial.out)
-    × (block_read (stands l.state l.line l.kept l.out l.at) (drop l.i l.block) ≡ block_read (stands l.initial.state l.initial.line l.n l.initial.out 0) l.block)
-
-abbrev pub decreases-loop-i : goal.decreases-loop-i
-decreases-loop-i l = length l.block - l.i
+abbrev pub invariant-loop-b : goal.invariant-loop-b
+invariant-loop-b g l = record {
+  within : l.b-index ≤ length l.block;
+  bound : array_vec_len l.out ≤ array_vec_len l.initial.out + 24 * l.b-index;
+  left : block_read (session_of l.state l.line.items l.out.items) (drop l.b-index l.block) ≡ block_read (session_of l.initial.state l.initial.line.items l.initial.out.items) l.block;
+}

@@ -1,14 +1,11 @@
 -- Where nothing was read, the words and the line begun are as they were; or a block was read, and its answers written.
 use Rattle.std.proofs.Common.{arith}
 use Rattle.std.proofs.lemmas.Grind.{common_steps}
-use Rattle.std.proofs.lemmas.Result.{MatchResult-from_err}
 use Rattle.session.proofs.Inputs.{read_none, answered_block, answered_end}
 use Rattle.session.proofs.read_some.Goals as goal
 
-pub returns-in_err-n-clause-err : goal.returns-in_err-n-clause-err
-returns-in_err-n-clause-err g c =
-    MatchResult-from_err c.from_residual.result _ _ c.from_residual.ensures.0
-    (λ _. record { kept = c.args.kept; kept_bound = c.requires.1; read_on = read_none _ _ })
+pub returns-in_err-n-clause-read_on : goal.returns-in_err-n-clause-read_on
+returns-in_err-n-clause-read_on g c = read_none _ _
 
 pub returns-then-n-eq0-clause-read_on : goal.returns-then-n-eq0-clause-read_on
 returns-then-n-eq0-clause-read_on g c = read_none _ _
@@ -18,5 +15,5 @@ returns-then-n-eq0-clause-answered g c = answered_end _ _ _ _ _ _ _ c.if-n-eq0.t
 
 pub returns-clause-answered : goal.returns-clause-answered
 returns-clause-answered g c =
-    answered_block _ _ _ _ _ _ _ _ _ _ _ _ _ _ _ c.run_block-progress.ensures.printed_after c.in_ok-n.ensures.bytes.0 (grind (arith, common_steps))
+    answered_block _ _ _ _ _ _ _ _ _ _ _ _ (rw c.new-out.ensures at c.run_block.ensures) c.in_ok-n.ensures.bytes.0 (grind (arith, common_steps))
     c.in_ok-write_all.ensures.bytes (grind (arith, common_steps))

@@ -1,14 +1,19 @@
 -- `setup::initialise` meets its contract.
 use Rattle.model.specs.Attributes.{group_of}
 use Rattle.model.specs.Calls.{set_checks, set_state, describe}
-use Rattle.state.proofs.Admitted.{answering, admitted-size}
+use Rattle.state.proofs.Admitted.{answering, passed_on}
 use Rattle.setup.proofs.initialise.Goals as goal
 
-pub returns-in-Refuse : goal.returns-in-Refuse
-returns-in-Refuse c = unfold describe set_checks group_of in (search answering)
+pub returns-in_default : goal.returns-in_default
+unfolding describe
+returns-in_default c = search (answering, c.in_default.ensures.cases)
 
-pub write_initialised-requires : goal.write_initialised-requires
-write_initialised-requires c = search admitted-size
+pub returns-in_err-check_initialise : goal.returns-in_err-check_initialise
+unfolding describe set_checks group_of
+returns-in_err-check_initialise c =
+    let q = passed_on _ _ c.from_residual.ensures.1 in
+    rw (q, ← c.in-Some.ensures.cases.same) (search (answering, c.in_err-check_initialise.was))
 
 pub returns : goal.returns
-returns c = unfold describe set_checks set_state group_of in (search answering)
+unfolding describe set_checks set_state group_of
+returns c = rw (← c.in-Some.ensures.cases.same) (search (answering, c.in_ok-check_initialise.was))

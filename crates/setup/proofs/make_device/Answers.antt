@@ -16,4 +16,4 @@ pub returns-then-s-ne-STATE_LENGTH : goal.returns-then-s-ne-STATE_LENGTH
 returns-then-s-ne-STATE_LENGTH c = unfold describe in (search (refuses, fault-is, ne_eqb))
 
 pub returns : goal.returns
-returns c = unfold describe made in (search (grants, none_is, eq-eqb, all-zero))
+returns c = let filled = c.fill.ensures.after (λ y h. h) in unfold describe made in (search (grants, none_is, eq-eqb, all-zero))

@@ -1,17 +1,9 @@
--- `console::parse::field_end` meets its contract.
-use mathlib.Core.Path.{refl}
-use borrow.Author.Rules.{rules}
-use Rattle.console.proofs.Spaces.{stops-here, stops-last, goes_on}
+-- A field ends at its first space, or with the line.
+use Rattle.console.proofs.Spaces.{ends_inside, ends_last}
 use Rattle.console.proofs.parse.field_end.Goals as goal
 
-pub loop-i-init : goal.loop-i-init
-loop-i-init c = (search rules, refl)
+pub returns-in-Some-clause-place : goal.returns-in-Some-clause-place
+returns-in-Some-clause-place c = ends_inside _ _ c.requires _ c.space_in.ensures _ c.in-Some.is
 
-pub returns-then-line-i-eq32 : goal.returns-then-line-i-eq32
-returns-then-line-i-eq32 c = (search stops-here, search rules)
-
-pub loop-i-preserved : goal.loop-i-preserved
-loop-i-preserved c = (search rules, search goes_on)
-
-pub returns : goal.returns
-returns c = (search stops-last, search rules)
+pub returns-in-None-clause-place : goal.returns-in-None-clause-place
+returns-in-None-clause-place c = ends_last _ _ c.requires _ c.space_in.ensures c.in-None.is

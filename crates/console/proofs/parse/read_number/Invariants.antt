@@ -1,12 +1,11 @@
--- `console::parse::read_number` meets its contract.
-use Prim.Native.Nat.{◌-◌, ◌^◌, ◌<◌, ◌≤◌}
-use mathlib.Core.Path.{◌≡◌}
-use lib.ListN.{length, drop}
+-- The digits read so far, and what is left of the field, make the number of the whole field.
+use Rattle.std.proofs.Common.{◌≡◌, ◌<◌, ◌≤◌, ◌^◌, length, drop}
 use Rattle.console.specs.Text.{digits_after}
 use Rattle.console.proofs.parse.read_number.Given as goal
 
-abbrev pub invariant-loop-i : goal.invariant-loop-i
-invariant-loop-i l = (l.i ≤ length l.field) × (l.n < 16 ^ l.i) × (digits_after l.n (drop l.i l.field) ≡ digits_after 0 l.field)
-
-abbrev pub decreases-loop-i : goal.decreases-loop-i
-decreases-loop-i l = length l.field - l.i
+abbrev pub invariant-loop-b : goal.invariant-loop-b
+invariant-loop-b l = record {
+  within : l.b-index ≤ length l.field;
+  bound : l.n < 16 ^ l.b-index;
+  left : digits_after l.n (drop l.b-index l.field) ≡ digits_after 0 l.field;
+}

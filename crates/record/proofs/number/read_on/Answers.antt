@@ -1,9 +1,8 @@
 -- `record::number::read_on` meets its contract: what is left to read, after the groups up to i, gives the number that was to be read.
-use Rattle.record.proofs.Groups.{ends-resumes, rest-first, rest-resumes, rest-cut, rest-ends, rest_over, group-fits, sum_fits, unit-fits, rest-next}
+use Prim.Native.Nat.{◌<◌}
+use native.Mathlib.Omega.{arith}
+use Rattle.record.proofs.Groups.{ends-resumes, rest-resumes, rest-cut, rest-ends, rest_over, group-fits, sum_fits, unit-fits, rest-next}
 use Rattle.record.proofs.number.read_on.Goals as goal
-
-pub loop-i-init : goal.loop-i-init
-loop-i-init c = search rest-first
 
 pub returns-then-b-lt128 : goal.returns-then-b-lt128
 returns-then-b-lt128 c = (search rest-ends, search ends-resumes)
@@ -12,16 +11,16 @@ pub returns-then-begun-eq-LAST_UNIT : goal.returns-then-begun-eq-LAST_UNIT
 returns-then-begun-eq-LAST_UNIT c = (search rest_over, tt)
 
 pub overflow_mul-begun : goal.overflow_mul-begun
-overflow_mul-begun c = search group-fits
+overflow_mul-begun c = let byte : c.from-b.result < 256 = omega arith in search group-fits
 
 pub overflow_add-begun : goal.overflow_add-begun
-overflow_add-begun c = search sum_fits
+overflow_add-begun c = let byte : c.from-b.result < 256 = omega arith in search sum_fits
 
 pub overflow_mul-begun-in-loop-i : goal.overflow_mul-begun-in-loop-i
-overflow_mul-begun-in-loop-i c = search unit-fits
+overflow_mul-begun-in-loop-i c = let byte : c.from-b.result < 256 = omega arith in search unit-fits
 
 pub loop-i-preserved : goal.loop-i-preserved
-loop-i-preserved c = search rest-next
+loop-i-preserved c = let byte : c.from-b.result < 256 = omega arith in search rest-next
 
 pub returns : goal.returns
 returns c = (search rest-cut, search rest-resumes)

@@ -1,13 +1,7 @@
 -- `record::restore::clear` meets its contract.
 use Rattle.record.proofs.Walking.{left-all}
-use Rattle.record.proofs.Walks.{clears-first, clears-then, clears-all}
+use Rattle.record.proofs.Walks.{clears-all}
 use Rattle.record.proofs.restore.clear.Goals as goal
-
-pub loop-k-init : goal.loop-k-init
-loop-k-init c = search clears-first
-
-pub loop-k-preserved : goal.loop-k-preserved
-loop-k-preserved c = search clears-then
 
 pub returns : goal.returns
 returns c = search (clears-all, left-all)

@@ -1,9 +1,6 @@
 -- `record::restore::clear_part` meets its contract.
-use Rattle.record.proofs.Walks.{clearing-first, clearing-next, clearing-end}
+use Rattle.record.proofs.Walks.{clearing-next, clearing-end}
 use Rattle.record.proofs.restore.clear_part.Goals as goal
-
-pub loop-j-init : goal.loop-j-init
-loop-j-init c = search clearing-first
 
 pub loop-j-preserved : goal.loop-j-preserved
 loop-j-preserved c = search clearing-next

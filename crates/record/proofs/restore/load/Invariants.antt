@@ -1,11 +1,7 @@
 -- `record::restore::load` meets its contract.
-use Prim.Native.Nat.{◌-◌}
 use Rattle.record.specs.Table.{parts}
 use Rattle.record.proofs.Walks.{Loaded}
 use Rattle.record.proofs.restore.load.Given as goal
 
-abbrev pub invariant-loop-place : goal.invariant-loop-place
-invariant-loop-place l = Loaded (parts l.shape.count l.shape.vcpus) l.bytes l.initial.place l.initial.cursor.at l.initial.s l.place l.cursor.at l.s
-
-abbrev pub decreases-loop-place : goal.decreases-loop-place
-decreases-loop-place l = l.end - l.place.part
+abbrev pub invariant-loop-part : goal.invariant-loop-part
+invariant-loop-part l = Loaded (parts l.shape.count l.shape.vcpus) l.bytes l.fn.from l.initial.cursor.at l.initial.s l.part l.word l.cursor.at l.s

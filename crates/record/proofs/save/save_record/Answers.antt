@@ -1,5 +1,5 @@
 -- `record::save::save_record` meets its contract.
-use Rattle.record.proofs.Filling.{record-unwritten, part_room, part-written, record-written, written-most}
+use Rattle.record.proofs.Filling.{part_small, record-unwritten, part_room, part-written, record-written, written-most}
 use borrow.Author.Rules.{rules}
 use Rattle.record.proofs.save.save_record.Goals as goal
 
@@ -7,7 +7,7 @@ pub loop-k-init : goal.loop-k-init
 loop-k-init c = search record-unwritten
 
 pub save_part-next-requires : goal.save_part-next-requires
-save_part-next-requires c = (search rules, search rules, search rules, search part_room)
+save_part-next-requires c = (search rules, search part_small, search part_room)
 
 pub loop-k-preserved : goal.loop-k-preserved
 loop-k-preserved c = search part-written

@@ -8,6 +8,3 @@ use Rattle.registers.proofs.single.written_status.Goals as goal
 pub returns-in-Guest : goal.returns-in-Guest
 unfolding written_status
 returns-in-Guest c = rw (c.in-Guest.is, and_mask _ 4) (low_bits 4 (omega arith) (ands (itself c.ranges.old) (nots (itself c.ranges.x))))
-
-pub returns-in-Attribute : goal.returns-in-Attribute
-returns-in-Attribute c = unfold written_status in (rw (c.in-Attribute.is, and_mask _ 4))

@@ -1,18 +1,12 @@
 -- `state::lookup::none_runs` meets its contract: none is the test of the vCPUs passed.
-use mathlib.Core.Path.{◌≡◌, refl}
-use native.Mathlib.Numerals.{add-one}
-use native.Mathlib.Omega.{arith}
-use borrow.Author.Rules.{rules}
+use Rattle.std.proofs.Common.{refl, ap, eqb}
 use Rattle.model.specs.Words.{all_below}
+use Rattle.state.proofs.Lowest.{one-more}
 use Rattle.state.proofs.lookup.none_runs.Goals as goal
 
 pub loop-v-init : goal.loop-v-init
 unfolding all_below
-loop-v-init c = (search rules, refl)
+loop-v-init c = refl
 
 pub loop-v-preserved : goal.loop-v-preserved
-unfolding all_below
-loop-v-preserved c = (omega arith, rw (add-one, c.running_of.ensures, c.loop-v.invariant.1))
-
-pub returns : goal.returns
-returns c = let q : c.loop-v.v ≡ c.args.n = omega arith in rw (← q) c.loop-v.invariant.1
+loop-v-preserved c = one-more _ _ _ _ c.loop-v.invariant (ap (λ n. eqb n 0) c.running_of.ensures)

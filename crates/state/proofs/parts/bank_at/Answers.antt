@@ -15,5 +15,5 @@ later v (suc w) r n e l = (e, l)
 pub returns-then-w-eq0 : goal.returns-then-w-eq0
 returns-then-w-eq0 c = first _ _ _ c.if-w-eq0.true c.block_at.ensures.0 c.block_at.ensures.1
 
-pub returns : goal.returns
-returns c = later _ _ _ c.if-w-eq0.false c.spi_bank_at.ensures.0 c.spi_bank_at.ensures.1
+pub returns-else-w-eq0 : goal.returns-else-w-eq0
+returns-else-w-eq0 c = later _ _ _ c.if-w-eq0.false c.spi_bank_at.ensures.0 c.spi_bank_at.ensures.1

@@ -8,7 +8,6 @@ use Rattle.state.proofs.soundness.fresh_fits.Goals as goal
 pub returns : goal.returns
 unfolding opposite all_below
 returns c =
-    let given = c.requires in
-    fresh-same _ given.1 given.0 (λ k. (c.type_inv.s k).fits)
+    fresh-same _ c.requires c.told-s c.fits-s
     c.misfit.ensures c.misfit-2.ensures c.misfit_words.ensures
     refl refl refl

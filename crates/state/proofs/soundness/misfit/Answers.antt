@@ -9,7 +9,7 @@ pub loop-i-init : goal.loop-i-init
 loop-i-init c = (at_first _ _ _ (search rules) (search rules), clear_none _)
 
 pub misfit_row-joined-requires : goal.misfit_row-joined-requires
-misfit_row-joined-requires c = (search rules, omega (arith, row-left _ _ _ _ c.loop-i.invariant.0 (omega arith)))
+misfit_row-joined-requires c = omega (arith, row-left _ _ _ _ c.loop-i.invariant.0 (omega arith))
 
 pub overflow_add-i : goal.overflow_add-i
 overflow_add-i c = omega (arith, row-left _ _ _ _ c.loop-i.invariant.0 (omega arith))

@@ -9,7 +9,7 @@ pub returns : goal.returns
 unfolding opposite all_below
 returns c =
     let given = c.requires in
-    used-same _ _ (record { least = given.1; most = given.2; step = given.3 }) given.4 given.0 (λ k. (c.type_inv.s k).fits)
+    used-same _ _ (record { least = given.0; most = given.1; step = given.2 }) given.3 c.told-s c.fits-s
     c.misfit.ensures c.misfit-2.ensures c.misfit_words.ensures c.misfit-3.ensures
     c.misfit-4.ensures c.misfit_words-2.ensures c.misfit_words-3.ensures c.misfit_words-4.ensures
     refl refl refl refl refl refl

@@ -11,13 +11,12 @@ marked : (i c n : ℕ) → setup i c n ≡ true → ¬ (i ≡ 0) → i ≡ 1
 marked i c n e z = let h = setup-mark _ _ _ e in omega arith
 
 pub fresh_fits-requires : goal.fresh_fits-requires
-fresh_fits-requires c = (c.requires.0, setup-vcpus _ _ _ c.requires.1)
+fresh_fits-requires c = setup-vcpus _ _ _ c.requires
 
 pub used_fits-requires : goal.used_fits-requires
 used_fits-requires c =
-    let h = c.requires in
-    let n = setup-count _ _ _ h.1 (marked _ _ _ c.requires.1 (λ e. c.if-initialised-eq0.false e)) in
-    (h.0, n.least, n.most, n.step, setup-vcpus _ _ _ h.1)
+    let n = setup-count _ _ _ c.requires (marked _ _ _ c.requires (λ e. c.if-initialised-eq0.false e)) in
+    (n.least, n.most, n.step, setup-vcpus _ _ _ c.requires)
 
 pub returns-then-initialised-eq0 : goal.returns-then-initialised-eq0
 unfolding word_ok allowed_bits
@@ -25,4 +24,4 @@ returns-then-initialised-eq0 c = rw c.if-initialised-eq0.true c.fresh_fits.ensur
 
 pub returns-else-initialised-eq0 : goal.returns-else-initialised-eq0
 unfolding word_ok allowed_bits
-returns-else-initialised-eq0 c = rw (marked _ _ _ c.requires.1 (λ e. c.if-initialised-eq0.false e)) c.used_fits.ensures
+returns-else-initialised-eq0 c = rw (marked _ _ _ c.requires (λ e. c.if-initialised-eq0.false e)) c.used_fits.ensures

@@ -1,6 +1,0 @@
--- `calls::make` meets its contract.
-use Rattle.calls.proofs.Shape.{public}
-use Rattle.calls.proofs.make.Goals as goal
-
-pub returns : goal.returns
-returns c = search public

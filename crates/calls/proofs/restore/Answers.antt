@@ -1,6 +1,0 @@
--- `calls::restore` meets its contract.
-use Rattle.calls.proofs.Shape.{public}
-use Rattle.calls.proofs.restore.Goals as goal
-
-pub returns : goal.returns
-returns c = search public

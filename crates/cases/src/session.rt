@@ -1,0 +1,87 @@
+// The lines of a session are run and compared with what they must give.
+use crate::answer::Answer;
+use crate::parse::Parts;
+use crate::room::Room;
+use std::alloc::Global;
+use std::io;
+use std::io::Write;
+
+// A line, with the name of its session and its number.
+#[derive(Clone, Copy)]
+struct Line<'a> {
+    session: &'a str,
+    number: u64,
+    text: &'a [u8],
+}
+
+impl<'a> Line<'a> {
+    // Tells what the line answered, or changed.
+    fn tell(self, printer: &mut impl Write, what: &str, found: &str) -> io::Result<()> {
+        let session = self.session;
+        let number = self.number;
+        write!(printer, "{session}:{number}: ")?;
+        printer.write_all(self.text)?;
+        writeln!(printer, "\n    {what} {found}")
+    }
+
+    // Whether what was found differs from what is expected; tells it if so.
+    fn differs(
+        self,
+        printer: &mut impl Write,
+        expected: &[u8],
+        what: &str,
+        found: &str,
+    ) -> io::Result<bool> {
+        if found.as_bytes() == expected {
+            return Ok(false);
+        }
+        self.tell(printer, what, found)?;
+        Ok(true)
+    }
+
+    // Runs the line, which makes a call; gives whether it differs.
+    fn check(self, printer: &mut impl Write, room: &mut Room, parts: Parts) -> io::Result<bool> {
+        let alloc = room.alloc;
+        let before = room.device;
+        let answer = room.run(parts.call)?.to_string(alloc)?;
+        // `ok` is expected, if the line does not say.
+        let expected = if parts.answer.is_empty() {
+            b"ok"
+        } else {
+            parts.answer
+        };
+        let wrong = self.differs(printer, expected, "answered", answer.as_str())?;
+        if parts.changes.is_empty() {
+            return Ok(wrong);
+        }
+        let changes = Answer::Changes(room.device.changes(alloc, &before)?).to_string(alloc)?;
+        let changed = self.differs(printer, parts.changes, "changed", changes.as_str())?;
+        Ok(wrong | changed)
+    }
+}
+
+// Runs the lines of a session on a device just made, and says how many make a call and how many differ.
+pub fn run_session(
+    printer: &mut impl Write,
+    alloc: Global,
+    session: &str,
+    text: &[u8],
+) -> io::Result<()> {
+    let mut room = Room::new(alloc);
+    let mut lines: u64 = 0;
+    let mut differ: u64 = 0;
+    for (number, text) in (1u64..).zip(text.split(|b| *b == b'\n')) {
+        let Some(parts) = Parts::of(text) else {
+            continue;
+        };
+        let line = Line {
+            session,
+            number,
+            text,
+        };
+        let differs = line.check(printer, &mut room, parts)?;
+        lines = lines.saturating_add(1);
+        differ = differ.saturating_add(u64::from(differs));
+    }
+    writeln!(printer, "{session}: {lines} lines, {differ} differ")
+}

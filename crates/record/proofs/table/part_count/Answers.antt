@@ -1,6 +1,0 @@
--- `record::table::part_count` meets its contract.
-use Rattle.record.proofs.Choices.{parts-counted}
-use Rattle.record.proofs.table.part_count.Goals as goal
-
-pub returns : goal.returns
-returns c = search parts-counted

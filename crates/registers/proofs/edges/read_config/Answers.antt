@@ -1,6 +1,0 @@
--- `registers::edges::read_config` meets its contract.
-use Rattle.registers.proofs.Banks.{reads-config}
-use Rattle.registers.proofs.edges.read_config.Goals as goal
-
-pub returns : goal.returns
-returns c = search reads-config

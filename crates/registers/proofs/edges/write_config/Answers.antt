@@ -1,6 +1,0 @@
--- `registers::edges::write_config` meets its contract.
-use Rattle.registers.proofs.Banks.{writes-config}
-use Rattle.registers.proofs.edges.write_config.Goals as goal
-
-pub returns : goal.returns
-returns c = search writes-config

@@ -1,6 +1,0 @@
--- `registers::flags::read_flags` meets its contract.
-use Rattle.registers.proofs.Banks.{reads-flags}
-use Rattle.registers.proofs.flags.read_flags.Goals as goal
-
-pub returns : goal.returns
-returns c = search reads-flags

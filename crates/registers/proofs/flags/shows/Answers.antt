@@ -1,9 +1,0 @@
--- `registers::flags::shows` meets its contract.
-use Rattle.registers.specs.Words.{theirs}
-use Rattle.registers.proofs.flags.shows.Goals as goal
-
-pub returns-in-Guest : goal.returns-in-Guest
-returns-in-Guest c = unfold theirs in cc
-
-pub returns-in-Attribute : goal.returns-in-Attribute
-returns-in-Attribute c = unfold theirs in cc

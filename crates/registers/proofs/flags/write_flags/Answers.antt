@@ -1,6 +1,0 @@
--- `registers::flags::write_flags` meets its contract.
-use Rattle.registers.proofs.Banks.{writes-flags}
-use Rattle.registers.proofs.flags.write_flags.Goals as goal
-
-pub returns : goal.returns
-returns c = search writes-flags
