@@ -107,7 +107,7 @@ fn system_at(view: View, number: u64) -> Option<Item>
     }
 }
 
-// Group 7 has 32 lines a word.
+// What a number names in a view, by its group; group 7 has 32 lines a word.
 #[tactic(auto, unfolding(crate::specs::Names::item_at))]
 fn item_at(q: RegisterGroup, view: View, number: u64) -> Option<Item>
     ensures { result ≡ item_at q view number }

@@ -2,7 +2,7 @@
 #![tactic(auto)]
 
 ghost use Rattle.std.specs.Prelude.{◌≡◌, [], ◌∷◌, true, cond, ◌≤◌, ◌<◌, length};
-ghost use Rattle.model.specs.Layout.{state_length, most_vcpus, vcpus};
+ghost use Rattle.model.specs.Layout.{most_vcpus, vcpus};
 ghost use Rattle.model.specs.Interrupts.{is_private};
 ghost use Rattle.model.specs.Sound.{sound};
 ghost use Rattle.model.specs.Refusals.{first_failing, number};
@@ -67,7 +67,7 @@ fn rises(bank: &[u32], i: u32, level: bool) -> bool
     has_bit(bank[EDGES + (i / 16) as usize], i % 16) & !has_bit(bank[LINE], i) & level
 }
 
-// A vCPU that sees the interrupt: `v` its private ones, an SPI any.
+// A vCPU that sees the interrupt: `v` where it is private, and any, so the first, where it is an SPI.
 fn vcpu_for(v: VcpuIndex, id: usize) -> VcpuIndex
     ensures { result.0 ≡ cond (is_private id) v.0 0 }
 {

@@ -268,7 +268,7 @@ settle (Err e) c s = record { answer = number (Err e); state = s; buffers = lent
 unfoldable pub call : Call → List ℕ → Outcome
 call c s = settle (refusal c s) c s
 
--- what save hands back: the filled front part of its buffer; a refusal hands back the empty front
+-- what save hands back: the filled front part of its buffer, which is empty where it is refused
 unfoldable pub front_of : ℤ → List ℕ → List ℕ
 front_of (pos n) b = take n b
 front_of (negsuc n) b = []
@@ -282,7 +282,7 @@ pub record Does (o : Outcome) (r : ℤ) (t : List ℕ) (bs : List (List ℕ)) : 
   pub state : t ≡ o.state
   pub buffers : bs ≡ o.buffers
 
--- what save promises its caller: the number left in a lent number, the words, and the part of the buffer that it hands back
+-- what save promises its caller: the number of its answer, the words, and the part of the buffer that it hands back
 pub record Saves (o : Outcome) (r : ℤ) (t : List ℕ) (front : List ℕ) : Type 0 where
   pub answer : r ≡ o.answer
   pub state : t ≡ o.state

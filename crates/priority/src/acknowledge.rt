@@ -1,7 +1,7 @@
 // Group priority, the running level, the signal, and acknowledge.
-ghost use Rattle.std.specs.Prelude.{◌≡◌, true, false, ◌/◌, ◌<◌, ◌≤◌, length};
+ghost use Rattle.std.specs.Prelude.{◌≡◌, true, false, ◌/◌, ◌<◌, ◌≤◌};
 ghost use Rattle.model.specs.Words.{bit};
-ghost use Rattle.model.specs.Layout.{state_length, most_vcpus, word, apr_at, latch_field, active_field};
+ghost use Rattle.model.specs.Layout.{word, apr_at, latch_field, active_field};
 ghost use Rattle.model.specs.Interrupts.{group, set_flag};
 ghost use Rattle.model.specs.Interface.{group_index, cleared_bits, group_priority, running_level, running_priority, of_group, gives, set_level, highest_pending, signal};
 ghost use Rattle.priority.specs.Asked.{Usable};

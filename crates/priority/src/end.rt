@@ -1,6 +1,5 @@
 // End of interrupt, and deactivate.
-ghost use Rattle.std.specs.Prelude.{◌≡◌, ◌<◌, length};
-ghost use Rattle.model.specs.Layout.{state_length, most_vcpus};
+ghost use Rattle.std.specs.Prelude.{◌≡◌, ◌<◌};
 ghost use Rattle.model.specs.Interrupts.{exists};
 ghost use Rattle.model.specs.Interface.{group_index, eoi_mode, dropped, ended, deactivated};
 

@@ -1,6 +1,5 @@
 // The candidates at a vCPU, and the best of them.
 ghost use Rattle.std.specs.Prelude.{◌≡◌, ◌<◌, length};
-ghost use Rattle.model.specs.Layout.{state_length, most_vcpus};
 ghost use Rattle.model.specs.Interface.{group_index, own_or_routed, group_on, rank, best};
 ghost use Rattle.priority.specs.Asked.{Usable};
 ghost use Rattle.priority.specs.Search.{ready_in, ready_mask, all_bits, routed};

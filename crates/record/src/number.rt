@@ -53,7 +53,7 @@ fn last_group(begun: Begun, b: u32, next: usize) -> Result<Number, Unread>
     })
 }
 
-// The number whose first groups are read, the others from a place on.
+// Reads on from a place, where the first groups of a number are read already.
 pub fn read_on(src: &[u8], from: Cursor, mut begun: Begun) -> Result<Number, Unread>
     requires { Begins begun }
     ensures { (told src.now result ≡ read_on begun.sum begun.unit (drop from.at src.now)) × Resumes result }

@@ -1,6 +1,5 @@
 // Restore: each number of a record is read, judged and stored before the next; a device whose record is refused is made fresh again.
-ghost use Rattle.std.specs.Prelude.{◌≡◌, [], ◌∷◌, ◌+◌, ◌≤◌, ◌<◌, length};
-ghost use Rattle.model.specs.Layout.{state_length};
+ghost use Rattle.std.specs.Prelude.{◌≡◌, [], ◌∷◌, ◌+◌, ◌<◌, length};
 ghost use Rattle.model.specs.Sound.{sound};
 ghost use Rattle.model.specs.Refusals.{first_failing, number};
 ghost use Rattle.model.specs.Calls.{Does, call, restore};

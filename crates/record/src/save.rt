@@ -1,6 +1,5 @@
 // Save: there is room for the whole record before its first byte is written.
 ghost use Rattle.std.specs.Prelude.{◌≡◌, [], ◌∷◌, ◌+◌, ◌≤◌, ◌<◌, leb, length};
-ghost use Rattle.model.specs.Layout.{state_length};
 ghost use Rattle.model.specs.Sound.{sound};
 ghost use Rattle.model.specs.Refusals.{first_failing, number};
 ghost use Rattle.model.specs.declared.Errno.TheVariants.{Efault};
@@ -55,9 +54,9 @@ fn has_room(s: &State, len: usize) -> bool
     record_length(s, shape) <= len
 }
 
-// ---- the record: each function writes from `at` on, and answers the place after it
+// ---- the record
 
-// The values of a part: of latches the latch itself, not pending, in which the line of a level interrupt counts too.
+// Writes the values of a part from `at` on, and answers the place after them: of latches the latch itself, not pending, in which the line of a level interrupt counts too.
 fn save_part(buf: &mut [u8], at: usize, s: &State, part: Part) -> usize
     requires { Inside part × Small s.now part × (at + length (slot_bytes s.now (slots_in part)) ≤ length buf.old) }
     ensures { Wrote buf.old at (slot_bytes s.now (slots_in part)) result buf.new }

@@ -1,10 +1,10 @@
 // The record as a table of parts, in the order of the record: for each run of words its place, its length, how a word is shown and which words may be there.
-ghost use Rattle.std.specs.Prelude.{◌≡◌, true, ◌+◌, ◌*◌, ◌^◌, ◌≤◌, ◌<◌, length, get_or};
+ghost use Rattle.std.specs.Prelude.{◌≡◌, ◌+◌, ◌*◌, ◌^◌, ◌≤◌, ◌<◌, length, get_or};
 ghost use Rattle.model.specs.Words.{spread};
 ghost use Rattle.model.specs.Layout.{state_length, most_vcpus};
 ghost use Rattle.model.specs.Record.{spi_words, spis};
 ghost use Rattle.model.specs.Demands.{Stopped};
-ghost use Rattle.record.specs.Table.{field_bits, field_least, least_of, shown, hidden, fixed, slot_at, slot_set, words_in, takes, row_of, blank, header_part, distributor_parts, bank_rows, bank_parts, vcpu_parts, interrupt_part, slots, table_of, ShapeOf, Inside};
+ghost use Rattle.record.specs.Table.{field_bits, field_least, least_of, shown, hidden, fixed, slot, slot_at, slot_set, words_in, takes, row_of, blank, header_part, distributor_parts, bank_rows, bank_parts, vcpu_parts, interrupt_part, slots, table_of, ShapeOf, Inside};
 
 use crate::shape::Shape;
 use model::layout::{
@@ -195,7 +195,7 @@ impl Kind {
 
     // Word `f` of a fresh device: the least that may be there.
     #[tactic(auto, unfolding(crate::specs::Table::least_of))]
-    fn fresh_word(self, f: usize) -> u32
+    pub fn fresh_word(self, f: usize) -> u32
         ensures { result ≡ least_of self f }
     {
         match self {
@@ -206,10 +206,29 @@ impl Kind {
 
     // Whether the set-up fixes a number: nothing is stored.
     #[tactic(auto, unfolding(crate::specs::Table::fixed))]
-    fn is_fixed(self) -> bool
+    pub fn is_fixed(self) -> bool
         ensures { result ≡ fixed self }
     {
         matches!(self, Kind::Exactly(_) | Kind::SetUp)
+    }
+
+    // Whether some device of the set-up of `s` shows `x` at a place, which is word `f` of its block.
+    #[tactic(auto, unfolding(crate::specs::Table::takes))]
+    pub fn takes(self, s: &State, at: usize, f: usize, x: u32) -> bool
+        requires { at < state_length }
+        ensures { result ≡ takes s.now (slot at self f) x }
+    {
+        match self {
+            Kind::Exactly(n) => x == n,
+            Kind::SetUp => x == s[at],
+            Kind::Within(mask) => is_within(x, mask),
+            Kind::Fields(block) => is_within(x, block.bits(f)) & (block.least(f) <= x),
+            Kind::Above(base, mask) => x >= base && is_within(x - base, mask),
+            Kind::Edges(block) => {
+                let w = edges_of(x);
+                (config_of(w) == x) & is_within(w, block.bits(f))
+            }
+        }
     }
 }
 
@@ -224,26 +243,15 @@ impl Part {
     }
 
     // Whether some device of the set-up of `s` shows `x` at word `j`.
-    #[tactic(auto, unfolding(crate::specs::Table::takes))]
     pub fn takes(self, s: &State, j: usize, x: u32) -> bool
         requires { Inside self × (j < self.len) }
         ensures { result ≡ takes s.now (slot_at self j) x }
     {
         let f = self.first + j;
-        match self.kind {
-            Kind::Exactly(n) => x == n,
-            Kind::SetUp => x == s[self.base + f],
-            Kind::Within(mask) => is_within(x, mask),
-            Kind::Fields(block) => is_within(x, block.bits(f)) & (block.least(f) <= x),
-            Kind::Above(base, mask) => x >= base && is_within(x - base, mask),
-            Kind::Edges(block) => {
-                let w = edges_of(x);
-                (config_of(w) == x) & is_within(w, block.bits(f))
-            }
-        }
+        self.kind.takes(s, self.base + f, f, x)
     }
 
-    // Stores word `j`, unless the set-up fixes it. The block or bank of the part is lent on as `&mut`.
+    // Stores word `j`, unless the set-up fixes it. What the part lies in is lent on as `&mut`.
     #[tactic(auto, unfolding(crate::specs::Table::slot_set))]
     pub fn store(self, s: &mut State, j: usize, word: u32)
         requires { Inside self × (j < self.len) }

@@ -245,6 +245,13 @@ fn attribute_counts(out: &mut impl Write, group: u64, row: [u64; 4]) -> io::Resu
     say_changed(out, &s, &device(1024))
 }
 
+// A row by a guest, and then by attribute.
+fn distributor_row(out: &mut impl Write, row: [u64; 4]) -> io::Result<()> {
+    guest_counts(out, row)?;
+    say(out, b";")?;
+    attribute_counts(out, 1, row)
+}
+
 // In the frames 0, 1 and 2, by a guest and by attribute, with the words changed.
 fn frame_row(out: &mut impl Write, name: &[u8], row: [u64; 4]) -> io::Result<()> {
     let before = device(64);
@@ -461,6 +468,16 @@ fn access_row(
     Ok(())
 }
 
+// Such an access of the distributor at count 1024.
+fn distributor_access(out: &mut impl Write, row: [u64; 4]) -> io::Result<()> {
+    access_row(out, 1024, Place::Distributor, 1, 0, row)
+}
+
+// The same of the frame of the last vCPU.
+fn frame_access(out: &mut impl Write, row: [u64; 4]) -> io::Result<()> {
+    access_row(out, 64, Place::Frame(2), 5, 0x00ab_cd0f_0000_0000, row)
+}
+
 // ---- system registers by attribute
 
 // Bits 63-32 and 31-0 of an attribute of group 6, and two values that it is set to.
@@ -601,27 +618,17 @@ const CHANGES: [[u64; 4]; 9] = [
     [0x0, 0x400, 0x0, 0xffff_ffff_ffff_ffff],
 ];
 
-// What a row asks of each of four devices.
-#[derive(Clone, Copy)]
-enum Request {
-    Guest,
-    Attribute,
-    Changes,
-}
-
-// What one device answers to such a row, and the words changed.
-fn request_case(
-    out: &mut impl Write,
-    request: Request,
+// What one device answers to a row, and the words changed.
+fn request_case<W: Write, F: Fn(&mut W, &mut [u32; 1760], [u64; 4]) -> io::Result<()>>(
+    out: &mut W,
     state: [u32; 1760],
     row: [u64; 4],
-) -> io::Result<()> {
+    answers: &F,
+) -> io::Result<()>
+    requires { F.IsAlwaysCallable answers.now }
+{
     let mut s = state;
-    match request {
-        Request::Guest => guest_answers(out, &mut s, row)?,
-        Request::Attribute => attribute_answers(out, &mut s, row)?,
-        Request::Changes => change_answers(out, &mut s, row)?,
-    }
+    answers(out, &mut s, row)?;
     say_changed(out, &s, &state)
 }
 
@@ -648,56 +655,43 @@ fn change_answers(out: &mut impl Write, s: &mut [u32; 1760], row: [u64; 4]) -> i
     say_read(out, calls::change_line(s, VcpuIndex(w), other, true))
 }
 
-// The four devices: not sound; not initialised; of count 1024, and vCPU 1 runs; stopped.
-fn request_row(out: &mut impl Write, request: Request, row: [u64; 4]) -> io::Result<()> {
+// The answers of four devices: not sound; not initialised; of count 1024, and vCPU 1 runs; stopped.
+fn request_row<W: Write, F: Fn(&mut W, &mut [u32; 1760], [u64; 4]) -> io::Result<()>>(
+    out: &mut W,
+    row: [u64; 4],
+    answers: F,
+) -> io::Result<()>
+    requires { F.IsAlwaysCallable answers }
+{
     let mut unsound = device(64);
     unsound[15] = 1;
-    request_case(out, request, unsound, row)?;
+    request_case(out, unsound, row, &answers)?;
     say(out, b";")?;
-    request_case(out, request, added(64), row)?;
+    request_case(out, added(64), row, &answers)?;
     say(out, b";")?;
     let mut running = device(1024);
     run(&mut running, true);
-    request_case(out, request, running, row)?;
+    request_case(out, running, row, &answers)?;
     say(out, b";")?;
-    request_case(out, request, device(64), row)
+    request_case(out, device(64), row, &answers)
 }
 
 // ---- the rows of a table
 
-// What the rows of a table are.
-#[derive(Clone, Copy)]
-enum Kind {
-    Distributor,
-    Lines,
-    Accesses,
-    FrameAccesses,
-    System,
-    Requests(Request),
-}
-
-// A line: the name, the row, and its answers.
-fn row_case(out: &mut impl Write, name: &[u8], kind: Kind, row: [u64; 4]) -> io::Result<()> {
-    say(out, name)?;
-    say_row(out, row)?;
-    match kind {
-        Kind::Distributor => {
-            guest_counts(out, row)?;
-            say(out, b";")?;
-            attribute_counts(out, 1, row)?
-        }
-        Kind::Lines => attribute_counts(out, 7, row)?,
-        Kind::Accesses => access_row(out, 1024, Place::Distributor, 1, 0, row)?,
-        Kind::FrameAccesses => access_row(out, 64, Place::Frame(2), 5, 0x00ab_cd0f_0000_0000, row)?,
-        Kind::System => system_row(out, row)?,
-        Kind::Requests(request) => request_row(out, request, row)?,
-    }
-    say(out, b"\n")
-}
-
-fn rows(out: &mut impl Write, name: &[u8], kind: Kind, table: &[[u64; 4]]) -> io::Result<()> {
+// A line for each row: the name, the row, and its answers.
+fn rows<W: Write, F: Fn(&mut W, [u64; 4]) -> io::Result<()>>(
+    out: &mut W,
+    name: &[u8],
+    table: &[[u64; 4]],
+    answers: F,
+) -> io::Result<()>
+    requires { F.IsAlwaysCallable answers }
+{
     for row in table {
-        row_case(out, name, kind, *row)?;
+        say(out, name)?;
+        say_row(out, *row)?;
+        answers(out, *row)?;
+        say(out, b"\n")?;
     }
     Ok(())
 }
@@ -884,25 +878,30 @@ fn words(out: &mut impl Write) -> io::Result<()> {
         out,
         b"words of the distributor: by a guest at counts 64, 96, 992 and 1024, and the words changed at 1024; the same by attribute\n",
     )?;
-    rows(out, b"CTLR", Kind::Distributor, &CTLR)?;
-    rows(out, b"P2: TYPER", Kind::Distributor, &TYPER)?;
-    rows(out, b"IIDR", Kind::Distributor, &IIDR)?;
-    rows(out, b"STATUSR", Kind::Distributor, &STATUSR)?;
-    rows(out, b"IGROUPR", Kind::Distributor, &IGROUPR)?;
-    rows(out, b"ISENABLER", Kind::Distributor, &ISENABLER)?;
-    rows(out, b"ICENABLER", Kind::Distributor, &ICENABLER)?;
-    rows(out, b"ISPENDR", Kind::Distributor, &ISPENDR)?;
-    rows(out, b"ICPENDR", Kind::Distributor, &ICPENDR)?;
-    rows(out, b"ISACTIVER", Kind::Distributor, &ISACTIVER)?;
-    rows(out, b"ICACTIVER", Kind::Distributor, &ICACTIVER)
+    rows(out, b"CTLR", &CTLR, distributor_row)?;
+    rows(out, b"P2: TYPER", &TYPER, distributor_row)?;
+    rows(out, b"IIDR", &IIDR, distributor_row)?;
+    rows(out, b"STATUSR", &STATUSR, distributor_row)?;
+    rows(out, b"IGROUPR", &IGROUPR, distributor_row)?;
+    rows(out, b"ISENABLER", &ISENABLER, distributor_row)?;
+    rows(out, b"ICENABLER", &ICENABLER, distributor_row)?;
+    rows(out, b"ISPENDR", &ISPENDR, distributor_row)?;
+    rows(out, b"ICPENDR", &ICPENDR, distributor_row)?;
+    rows(out, b"ISACTIVER", &ISACTIVER, distributor_row)?;
+    rows(out, b"ICACTIVER", &ICACTIVER, distributor_row)
 }
 
 fn fields(out: &mut impl Write) -> io::Result<()> {
-    rows(out, b"IPRIORITYR", Kind::Distributor, &IPRIORITYR)?;
-    rows(out, b"ICFGR", Kind::Distributor, &ICFGR)?;
-    rows(out, b"IROUTER", Kind::Distributor, &IROUTER)?;
+    rows(out, b"IPRIORITYR", &IPRIORITYR, distributor_row)?;
+    rows(out, b"ICFGR", &ICFGR, distributor_row)?;
+    rows(out, b"IROUTER", &IROUTER, distributor_row)?;
     say(out, b"group 7, by attribute alone\n")?;
-    rows(out, b"lines", Kind::Lines, &LINES)
+    rows(
+        out,
+        b"lines",
+        &LINES,
+        |out, row| attribute_counts(out, 7, row),
+    )
 }
 
 fn accesses(out: &mut impl Write) -> io::Result<()> {
@@ -910,12 +909,12 @@ fn accesses(out: &mut impl Write) -> io::Result<()> {
         out,
         b"other accesses, the word 10203043 written first: read back, that word, words changed; the attribute got and set\n",
     )?;
-    rows(out, b"bytes", Kind::Accesses, &BYTES)?;
-    rows(out, b"sizes", Kind::Accesses, &SIZES)?;
-    rows(out, b"unlisted", Kind::Accesses, &UNLISTED)?;
-    rows(out, b"frame bytes", Kind::FrameAccesses, &FRAME_BYTES)?;
-    rows(out, b"frame sizes", Kind::FrameAccesses, &FRAME_SIZES)?;
-    rows(out, b"frame unlisted", Kind::FrameAccesses, &FRAME_UNLISTED)
+    rows(out, b"bytes", &BYTES, distributor_access)?;
+    rows(out, b"sizes", &SIZES, distributor_access)?;
+    rows(out, b"unlisted", &UNLISTED, distributor_access)?;
+    rows(out, b"frame bytes", &FRAME_BYTES, frame_access)?;
+    rows(out, b"frame sizes", &FRAME_SIZES, frame_access)?;
+    rows(out, b"frame unlisted", &FRAME_UNLISTED, frame_access)
 }
 
 fn refusals(out: &mut impl Write) -> io::Result<()> {
@@ -923,18 +922,23 @@ fn refusals(out: &mut impl Write) -> io::Result<()> {
         out,
         b"refusals, each device not sound; not initialised; running; stopped\n",
     )?;
-    rows(out, b"guest", Kind::Requests(Request::Guest), &GUEST)?;
+    rows(
+        out,
+        b"guest",
+        &GUEST,
+        |out, row| request_row(out, row, guest_answers),
+    )?;
     rows(
         out,
         b"attribute",
-        Kind::Requests(Request::Attribute),
         &ATTRIBUTES,
+        |out, row| request_row(out, row, attribute_answers),
     )?;
     rows(
         out,
         b"line changes",
-        Kind::Requests(Request::Changes),
         &CHANGES,
+        |out, row| request_row(out, row, change_answers),
     )
 }
 
@@ -943,7 +947,7 @@ fn system_registers(out: &mut impl Write) -> io::Result<()> {
         out,
         b"group 6: the first value read back; the second set, read back, words changed\n",
     )?;
-    rows(out, b"system", Kind::System, &SYSTEM)?;
+    rows(out, b"system", &SYSTEM, system_row)?;
     say(
         out,
         b"group 6 and unknown groups, each device not sound; not initialised; running; stopped\n",
@@ -951,14 +955,14 @@ fn system_registers(out: &mut impl Write) -> io::Result<()> {
     rows(
         out,
         b"attribute",
-        Kind::Requests(Request::Attribute),
         &GROUP_6,
+        |out, row| request_row(out, row, attribute_answers),
     )?;
     rows(
         out,
         b"attribute",
-        Kind::Requests(Request::Attribute),
         &UNKNOWN_GROUPS,
+        |out, row| request_row(out, row, attribute_answers),
     )
 }
 

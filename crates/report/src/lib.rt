@@ -34,12 +34,12 @@ pub fn say_answer(out: &mut impl Write, r: i64) -> io::Result<()> {
     }
 }
 
-// What a call that writes answers.
+// The same, of an answer.
 pub fn say_written(out: &mut impl Write, answer: Result<u32, Errno>) -> io::Result<()> {
     say_signed(out, number_of(answer))
 }
 
-// What a call that reads answers.
+// The same, of an answer, with its value in hex.
 pub fn say_read(out: &mut impl Write, answer: Result<u32, Errno>) -> io::Result<()> {
     say_answer(out, number_of(answer))
 }

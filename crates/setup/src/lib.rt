@@ -1,9 +1,9 @@
 // The calls that set a device up: make, add vCPU, attribute groups 3 and 4, running flag. Each has its refusals in document 01's order, EFAULT first, then its writer.
 #![tactic(auto)]
 
-ghost use Rattle.std.specs.Prelude.{◌≡◌, [], ◌∷◌, cond, not, ◌&&◌, ◌||◌, ◌<◌, eqb, ltb, length, replicate, set};
+ghost use Rattle.std.specs.Prelude.{◌≡◌, [], ◌∷◌, cond, not, ◌&&◌, ◌||◌, ◌<◌, eqb, ltb, length, set};
 ghost use Rattle.model.specs.Values.{edge_bits};
-ghost use Rattle.model.specs.Layout.{state_length, most_vcpus, initialised_at, is_initialised, count, count_at, vcpus, edge_field, affinity_field, bpr_field, least_bpr};
+ghost use Rattle.model.specs.Layout.{most_vcpus, initialised_at, is_initialised, count, count_at, vcpus, edge_field, affinity_field, bpr_field, least_bpr};
 ghost use Rattle.model.specs.Sound.{sound};
 ghost use Rattle.model.specs.Refusals.{first_failing, number};
 ghost use Rattle.model.specs.Calls.{Does, call, checks, set_checks, make, add_vcpu, set_running, get_attribute, set_attribute, vcpu_added, initialised_next};

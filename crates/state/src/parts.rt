@@ -1,6 +1,6 @@
 // The parts of the state that are lent on as `&mut`: a vCPU's block, a bank, a route; their places, and the stores into them.
 ghost use Rattle.std.specs.Prelude.{◌≡◌, ◌+◌, ◌*◌, ◌≤◌, ◌<◌, length, set};
-ghost use Rattle.model.specs.Layout.{most_vcpus, block, bank, route_at};
+ghost use Rattle.model.specs.Layout.{block, bank, route_at};
 ghost use Rattle.model.specs.Interrupts.{set_flag};
 
 use crate::lookup::Vcpu;

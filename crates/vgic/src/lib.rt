@@ -1,4 +1,4 @@
-// The public calls for C: numbers and slices only. Each hands on to the function of `calls` that has its name, `vgic_save` to `fill`, and promises the same: `Does` of its case of `call`. A library exports no symbol: the static library `vgic_c` does.
+// The public calls for C: numbers and slices only. Each hands on to the function of `calls` that has its name, `vgic_save` to `fill`, makes the signed number of its answer, and promises the same: `Does` of its case of `call`. A library exports no symbol: the static library `vgic_c` does.
 #![tactic(auto)]
 
 ghost use Rattle.std.specs.Prelude.{[], ◌∷◌};
