@@ -18,7 +18,7 @@ use Rattle.model.specs.declared.RegisterGroup.TheVariants.{Distributor, Redistri
 use Rattle.model.specs.declared.AttributeGroup.TheVariants.{Registers}
 use Rattle.model.proofs.Refused.{none_then, fails-then, passed, refusal-list, told-no, told-yes, refuses, grants}
 use Rattle.attributes.specs.Names.{group_number, item_at, named_by, item_named, Within}
-use Rattle.attributes.proofs.Placing.{Inside, placed, stands}
+use Rattle.attributes.proofs.Placing.{Inside, has_view, placed}
 
 -- ---- the tests of a get, and of a set
 
@@ -74,7 +74,7 @@ module _ (q : RegisterGroup) (a : ℕ) (s : List ℕ) where
       unfolding register_checks
       named-within =
           let p = passed tested opened.0 in
-          let x = stands q a s p.1.1.0 in
+          let x = has_view q a s p.1.1.0 in
           let y = placed q a s x.0 x.1 in
           let w : Inside s (item_at q x.0 (low a)) = y.within p.0 (in-phase Stopped s p.1.1.1.0) p.1.0 in
           rw (sym y.is_item ∙ opened.1) at w

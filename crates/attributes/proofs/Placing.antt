@@ -1,4 +1,4 @@
--- Where an attribute's register stands, and what is named there.
+-- The view that an attribute's register is in, and what is named there.
 use Rattle.std.specs.Prelude.{Option, Some, None, is_some}
 use Prim.Native.Nat.{ℕ, ◌/◌, ◌%◌, ◌<◌}
 use mathlib.Core.Path.{◌≡◌, refl, sym, ◌∙◌}
@@ -75,7 +75,7 @@ frame-no s h e = step (is_used s h) refl e
     step true q g = cc
     step false q g = q
 
--- the view x is where an attribute's register stands
+-- the view x is the one that an attribute's register is in
 pub record Placed (q : RegisterGroup) (a : ℕ) (s : List ℕ) (x : View) : Type 0 where
   pub is_known : affinity_known q a s ≡ true
   pub is_item : item q a s ≡ item_at q x (low a)
@@ -134,7 +134,7 @@ placed Interface a s x e =
     })
 placed Lines a s x e = of-lines a s x e
 
--- and where it stands nowhere
+-- and where no view has it
 pub unplaced : (q : RegisterGroup) (a : ℕ) (s : List ℕ) → place_of q a s ≡ None → affinity_known q a s ≡ false
 unfolding place_of affinity_known
 unplaced Distributor a s e = cc
@@ -147,8 +147,8 @@ unplaced Lines a s e = step (ltb (low a) 32) e
     step false g = cc
 
 -- one or the other
-pub stands : (q : RegisterGroup) (a : ℕ) (s : List ℕ) → affinity_known q a s ≡ true → (x : View) × (place_of q a s ≡ Some x)
-stands q a s t = step (place_of q a s) refl
+pub has_view : (q : RegisterGroup) (a : ℕ) (s : List ℕ) → affinity_known q a s ≡ true → (x : View) × (place_of q a s ≡ Some x)
+has_view q a s t = step (place_of q a s) refl
   where
     step : (p : Option View) → place_of q a s ≡ p → (x : View) × (place_of q a s ≡ Some x)
     step (Some x) e = (x, e)

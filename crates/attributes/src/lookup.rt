@@ -43,7 +43,7 @@ fn number_ok(q: RegisterGroup, attribute: u64) -> bool
     }
 }
 
-// ---- where a register stands
+// ---- the view that a register is in
 
 // The frame of the vCPU that has an affinity.
 #[tactic(auto, unfolding(crate::specs::Names::frame_with, state::specs::Lookup::first_with, model::specs::Attributes::index_of))]
@@ -67,7 +67,7 @@ fn lines_at(s: &State, attribute: u64) -> Option<View>
     }
 }
 
-// Where an attribute's register stands.
+// The view that an attribute's register is in.
 #[tactic(auto, unfolding(crate::specs::Names::place_of))]
 fn place_of(s: &State, q: RegisterGroup, attribute: u64) -> Option<View>
     requires { vcpus s.now ≤ most_vcpus }

@@ -19,7 +19,7 @@ pub enum Answer {
 
 impl Answer {
     // Of a call that answers 0.
-    pub fn of_call(answer: Result<u32, Errno>) -> Answer {
+    pub(crate) fn of_call(answer: Result<u32, Errno>) -> Answer {
         match answer {
             Ok(_) => Answer::Done,
             Err(e) => Answer::Refused(e),
@@ -27,7 +27,7 @@ impl Answer {
     }
 
     // Of a call that answers a number.
-    pub fn of_read(answer: Result<u32, Errno>) -> Answer {
+    pub(crate) fn of_read(answer: Result<u32, Errno>) -> Answer {
         match answer {
             Ok(value) => Answer::Number(value),
             Err(e) => Answer::Refused(e),

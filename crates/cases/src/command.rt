@@ -151,7 +151,7 @@ fn asks(word: &[u8], numbers: &[u64]) -> Option<Question> {
 }
 
 // A word with its numbers.
-pub fn command_of(word: &[u8], numbers: &[u64]) -> Option<Command> {
+pub(crate) fn command_of(word: &[u8], numbers: &[u64]) -> Option<Command> {
     does(word, numbers)
         .map(Command::Does)
         .or_else(|| reads(word, numbers).map(Command::Reads))

@@ -20,7 +20,7 @@ fn split_at_sign<'a>(text: &'a [u8], sign: &[u8]) -> (&'a [u8], &'a [u8]) {
 
 impl<'a> Parts<'a> {
     // The parts of a line, if it makes a call.
-    pub fn of(line: &'a [u8]) -> Option<Parts<'a>> {
+    pub(crate) fn of(line: &'a [u8]) -> Option<Parts<'a>> {
         let (text, _comment) = split_at_sign(line, b"#");
         let text = text.trim_end_with(|c| c == ' ');
         if text.is_empty() {
@@ -37,7 +37,7 @@ impl<'a> Parts<'a> {
 }
 
 // The word of a call, and up to five numbers behind it, each after one space.
-pub fn word_and_numbers(call: &[u8]) -> (&[u8], Option<ArrayVec<u64, 5>>) {
+pub(crate) fn word_and_numbers(call: &[u8]) -> (&[u8], Option<ArrayVec<u64, 5>>) {
     match call.split_once_str(b" ") {
         Some((word, rest)) => (word, numbers(rest)),
         None => (call, Some(ArrayVec::new())),
@@ -59,7 +59,7 @@ fn byte(pair: &[u8]) -> Option<u8> {
 }
 
 // Puts bytes from hex digits into the front of a buffer; gives how many they are. `.` is no byte.
-pub fn read_pairs(digits: &[u8], into: &mut [u8]) -> Option<usize>
+pub(crate) fn read_pairs(digits: &[u8], into: &mut [u8]) -> Option<usize>
     ensures { IfSome result (λ n. n ≤ length into.new) }
 {
     if digits == b".".as_slice() {

@@ -33,30 +33,30 @@ impl Device {
     }
 
     // The words that a call is lent.
-    pub fn state(&self) -> &[u32] {
+    pub(crate) fn state(&self) -> &[u32] {
         &self.words[..self.lent]
     }
 
     // Makes a call on them.
-    pub fn make(&mut self, call: Call) -> Result<u32, Errno> {
+    pub(crate) fn make(&mut self, call: Call) -> Result<u32, Errno> {
         let words = &mut self.words[..];
         call.make(&mut words[..self.lent])
     }
 
     // Restores a record into them.
-    pub fn restore(&mut self, record: &[u8]) -> Result<u32, Errno> {
+    pub(crate) fn restore(&mut self, record: &[u8]) -> Result<u32, Errno> {
         let words = &mut self.words[..];
         calls::restore(&mut words[..self.lent], record)
     }
 
     // Sets each of them.
-    pub fn fill(&mut self, x: u32) {
+    pub(crate) fn fill(&mut self, x: u32) {
         let words = &mut self.words[..];
         words[..self.lent].fill(x);
     }
 
     // Lends the first n words from now on, if there are as many.
-    pub fn lend(&mut self, n: usize) -> Option<()> {
+    pub(crate) fn lend(&mut self, n: usize) -> Option<()> {
         if n > MOST_WORDS {
             return None;
         }
@@ -64,18 +64,18 @@ impl Device {
         Some(())
     }
 
-    pub fn word(&self, at: usize) -> Option<u32> {
+    pub(crate) fn word(&self, at: usize) -> Option<u32> {
         self.words.get(at).copied()
     }
 
     // Sets a word, if it is there.
-    pub fn set_word(&mut self, at: usize, x: u32) -> Option<()> {
+    pub(crate) fn set_word(&mut self, at: usize, x: u32) -> Option<()> {
         *self.words.get_mut(at)? = x;
         Some(())
     }
 
     // The words that differ from those of another device.
-    pub fn changes(&self, alloc: Global, other: &Device) -> Result<Vec<Change>, AllocError> {
+    pub(crate) fn changes(&self, alloc: Global, other: &Device) -> Result<Vec<Change>, AllocError> {
         self.words
             .iter()
             .zip(&other.words)
@@ -98,7 +98,7 @@ pub struct Room {
 
 impl Room {
     // A device just made, another one, and a buffer of a5.
-    pub fn new(alloc: Global) -> Room {
+    pub(crate) fn new(alloc: Global) -> Room {
         Room {
             alloc,
             device: Device::new(),
@@ -110,39 +110,39 @@ impl Room {
     }
 
     // Remembers the device and the buffer.
-    pub fn mark(&mut self) {
+    pub(crate) fn mark(&mut self) {
         self.device_at_mark = self.device;
         self.buffer_at_mark = self.buffer;
     }
 
     // Puts them back as they were at the mark.
-    pub fn back(&mut self) {
+    pub(crate) fn back(&mut self) {
         self.device = self.device_at_mark;
         self.buffer = self.buffer_at_mark;
     }
 
     // Goes on with the other device.
-    pub fn swap(&mut self) {
+    pub(crate) fn swap(&mut self) {
         mem::swap(&mut self.device, &mut self.other);
     }
 
     // The words of the device that differ from the mark.
-    pub fn changed(&self) -> Result<Vec<Change>, AllocError> {
+    pub(crate) fn changed(&self) -> Result<Vec<Change>, AllocError> {
         self.device.changes(self.alloc, &self.device_at_mark)
     }
 
     // Those that differ from the other device's.
-    pub fn differing(&self) -> Result<Vec<Change>, AllocError> {
+    pub(crate) fn differing(&self) -> Result<Vec<Change>, AllocError> {
         self.device.changes(self.alloc, &self.other)
     }
 
     // So many bytes of the buffer from a place on.
-    pub fn shown(&self, at: usize, n: usize) -> Option<&[u8]> {
+    pub(crate) fn shown(&self, at: usize, n: usize) -> Option<&[u8]> {
         self.buffer.get(at..)?.get(..n)
     }
 
     // The first and the last byte of the buffer that differ from the mark.
-    pub fn touched(&self) -> Option<(usize, usize)> {
+    pub(crate) fn touched(&self) -> Option<(usize, usize)> {
         let first = self
             .buffer
             .iter()

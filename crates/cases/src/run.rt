@@ -10,7 +10,7 @@ use std::alloc::{AllocError, Global};
 
 impl Call {
     // Makes the call.
-    pub fn make(self, state: &mut [u32]) -> Result<u32, Errno> {
+    pub(crate) fn make(self, state: &mut [u32]) -> Result<u32, Errno> {
         match self {
             Call::Make => calls::make(state),
             Call::AddVcpu(mpidr) => calls::add_vcpu(state, mpidr),
@@ -125,7 +125,7 @@ impl Room {
     }
 
     // Runs a line without its expectations.
-    pub fn run(&mut self, line: &[u8]) -> Result<Answer, AllocError> {
+    pub(crate) fn run(&mut self, line: &[u8]) -> Result<Answer, AllocError> {
         let answer = match line.split_once_str(b" ") {
             Some((b"restore", digits)) => self.restore(digits),
             Some((b"byte", place_and_digits)) => self.replace(place_and_digits),

@@ -61,7 +61,7 @@ impl<'a> Line<'a> {
 }
 
 // Runs the lines of a session on a device just made, and says how many make a call and how many differ.
-pub fn run_session(
+pub(crate) fn run_session(
     printer: &mut impl Write,
     alloc: Global,
     session: &str,

@@ -139,7 +139,7 @@ fn restore(out: &mut impl Write, s: &mut [u32; 1760], bytes: &[u8]) -> io::Resul
     say(out, b";")
 }
 
-// An edit of a record: how many bytes are restored, a place, and the six bytes that stand from there on.
+// A change to a record: how many bytes are restored, a place, and the six bytes to put there.
 type Edit = (u8, u8, [u8; 6]);
 
 // The fresh record with six bytes replaced.

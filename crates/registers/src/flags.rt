@@ -15,7 +15,7 @@ use words::{pending_of, written_under};
 
 // ---- their table
 
-// A row: where the flag stands in a bank, the least ID that has it, and what guest and attribute read and write of it.
+// A row: the place of the flag in a bank, the least ID that has it, and how the guest and an attribute read and write it.
 #[derive(Drop)]
 struct Row {
     field: usize,
@@ -76,7 +76,7 @@ impl Row {
     }
 }
 
-// The row of a register; what it shows and does stands first for the guest, then for the attribute.
+// The row of a register: what it shows the guest and how the guest writes it, then the same for an attribute.
 #[tactic(auto, unfolding(model::specs::Registers::flags))]
 fn row_of(f: Flags) -> Row
     ensures { result ≡ flags f }

@@ -1,4 +1,4 @@
--- The digits that are left stand in front of those that are spelled.
+-- The digits that are left come before those that are spelled.
 use Rattle.std.proofs.Common.{◌≡◌, ◌≤◌, length, drop}
 use Rattle.console.specs.Answers.{digits, number_line}
 use Rattle.console.proofs.print.spell.Given as goal
