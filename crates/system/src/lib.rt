@@ -56,7 +56,8 @@ pub fn read_register(s: &mut State, v: Vcpu, register: SystemRegister) -> Result
     match register {
         SystemRegister::Both(p) => Ok(read_plain(s, By::Guest, v, p)),
         SystemRegister::Read(r) => read_only(s, v, r),
-        SystemRegister::Write(_) | SystemRegister::Unnamed => Err(Errno::Enxio),
+        SystemRegister::Write(_) => Err(Errno::Enxio),
+        SystemRegister::Unnamed => Err(Errno::Enxio),
     }
 }
 
@@ -80,6 +81,7 @@ pub fn write_register(
             write_only(s, v, w, x);
             Ok(0)
         }
-        SystemRegister::Read(_) | SystemRegister::Unnamed => Err(Errno::Enxio),
+        SystemRegister::Read(_) => Err(Errno::Enxio),
+        SystemRegister::Unnamed => Err(Errno::Enxio),
     }
 }
