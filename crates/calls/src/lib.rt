@@ -1,11 +1,12 @@
 // The public calls. Each takes any numbers and any lent words and bytes, and promises `Does` of its case of `call`: its answer, words and bytes. `save`, which hands back a part of its buffer, promises `Saves`.
 #![tactic(auto)]
 
-ghost use Rattle.std.specs.Prelude.{◌≡◌, [], ◌∷◌, nat_abs, length, MatchResult};
+ghost use Rattle.std.specs.Prelude.{◌≡◌, [], ◌∷◌, nat_abs};
 ghost use Rattle.model.specs.Refusals.{number};
 ghost use Rattle.model.specs.Calls.{Does, call, make, add_vcpu, set_running, change_line, read_distributor, write_distributor, read_frame, write_frame, read_system, write_system, query_signal, get_attribute, set_attribute, save, restore, Saves};
 
 use model::Errno;
+use record::save::front_length;
 use state::{Mpidr, VcpuIndex};
 
 // ---- the answer as a signed number
@@ -167,12 +168,13 @@ pub fn fill(state: &[u32], buf: &mut [u8]) -> Result<u32, Errno>
     record::save::fill(state, buf)
 }
 
-// The same, and hands back the filled front part of the buffer.
-pub fn save<'a>(state: &[u32], buf: &'a mut [u8]) -> Result<&'a mut [u8], Errno>
-    ensures { MatchResult result (λ front. Saves (call (save buf.old) state.now) (number (Ok (length front.now))) state.now front.now × (front.ref_ptr ≡ buf.entry.ref_ptr)) (λ e. Saves (call (save buf.old) state.now) (number (Err e)) state.now []) }
+// The same, with the answer left in `res`: hands back the filled front part of the buffer, the empty front where it is refused.
+pub fn save<'a>(state: &[u32], buf: &'a mut [u8], res: &mut i64) -> &'a mut [u8]
+    ensures { Saves (call (save buf.old) state.now) res.new state.now result.now × (result.ref_ptr ≡ buf.entry.ref_ptr) }
 {
-    let n = record::save::fill(state, buf)?;
-    Ok(&mut buf[..n as usize])
+    let answer = record::save::fill(state, buf);
+    *res = number_of(answer);
+    &mut buf[..front_length(answer)]
 }
 
 // Restores the device of a record into a fresh one of the same count and affinities.

@@ -1,71 +1,83 @@
-// What a line answers, and its text.
-use crate::room::Change;
+// What a line answers, and how it is shown.
+use crate::room::Device;
+use crate::text::Text;
 use calls::number_of;
 use model::Errno;
-use std::fmt;
 
-#[derive(Drop)]
-pub enum Answer {
+#[derive(Clone, Copy)]
+pub enum Answer<'a> {
     Done,
     Number(u32),
-    Refused(Errno),
-    Bytes(Vec<u8>),
+    // The signed number of a refusal.
+    Refused(i64),
+    Bytes(&'a [u8]),
     // The first and the last byte of a span, if there is one.
-    Span(Option<(usize, usize)>),
-    Changes(Vec<Change>),
+    Span(Option<(u32, u32)>),
+    // The words of a device that differ from those of another.
+    Changes(&'a Device, &'a Device),
     // The line is no command.
     Unknown,
 }
 
-impl Answer {
+impl<'a> Answer<'a> {
     // Of a call that answers 0.
-    pub(crate) fn of_call(answer: Result<u32, Errno>) -> Answer {
+    pub(crate) fn of_call(answer: Result<u32, Errno>) -> Answer<'a> {
         match answer {
             Ok(_) => Answer::Done,
-            Err(e) => Answer::Refused(e),
+            Err(_) => Answer::Refused(number_of(answer)),
         }
     }
 
     // Of a call that answers a number.
-    pub(crate) fn of_read(answer: Result<u32, Errno>) -> Answer {
+    pub(crate) fn of_read(answer: Result<u32, Errno>) -> Answer<'a> {
         match answer {
             Ok(value) => Answer::Number(value),
-            Err(e) => Answer::Refused(e),
+            Err(_) => Answer::Refused(number_of(answer)),
         }
     }
-}
 
-impl fmt::Display for Answer {
-    fn fmt<W: fmt::Write>(&self, f: &mut fmt::Formatter<W>) -> fmt::Result {
+    // Leaves its text, in place of what was there.
+    pub(crate) fn write(self, text: &mut Text) {
+        text.clear();
         match self {
-            Answer::Done => f.write_str("ok"),
-            Answer::Number(n) => write!(f, "{n:x}"),
-            Answer::Refused(e) => write!(f, "{}", number_of(Err(*e))),
-            Answer::Bytes(bytes) => write_bytes(f, bytes),
-            Answer::Span(None) => f.write_str("none"),
-            Answer::Span(Some((first, last))) => write!(f, "{first:x}-{last:x}"),
-            Answer::Changes(changes) => write_changes(f, changes),
-            Answer::Unknown => f.write_str("?"),
+            Answer::Done => text.add(b"ok"),
+            Answer::Number(n) => text.add_answer(true, i64::from(n)),
+            Answer::Refused(number) => text.add_answer(false, number),
+            Answer::Bytes(bytes) => text.hold_bytes(bytes),
+            Answer::Span(None) => text.add(b"none"),
+            Answer::Span(Some((first, last))) => add_span(text, first, last),
+            Answer::Changes(device, before) => write_changes(text, device, before),
+            Answer::Unknown => text.add(b"?"),
         }
     }
 }
 
-// Bytes, each as two hex digits.
-fn write_bytes<W: fmt::Write>(f: &mut fmt::Formatter<W>, bytes: &[u8]) -> fmt::Result {
-    for byte in bytes {
-        write!(f, "{byte:02x}")?;
-    }
-    Ok(())
+// Adds a span of bytes, from the first to the last.
+fn add_span(text: &mut Text, first: u32, last: u32) {
+    text.add_hex(first);
+    text.add(b"-");
+    text.add_hex(last);
 }
 
-// Words, each as its place and its value, with a space between; or `none`.
-fn write_changes<W: fmt::Write>(f: &mut fmt::Formatter<W>, changes: &[Change]) -> fmt::Result {
-    let Some(((at, word), others)) = changes.split_first() else {
-        return f.write_str("none");
-    };
-    write!(f, "{at:x}:{word:x}")?;
-    for (at, word) in others {
-        write!(f, " {at:x}:{word:x}")?;
+// Adds a word with its place, behind a space where another is there.
+fn add_change(text: &mut Text, place: u32, word: u32) {
+    if !text.is_empty() {
+        text.add(b" ");
     }
-    Ok(())
+    text.add_hex(place);
+    text.add(b":");
+    text.add_hex(word);
+}
+
+// Leaves the words of a device that differ from those of another, or `none`.
+pub(crate) fn write_changes(text: &mut Text, device: &Device, before: &Device) {
+    text.clear();
+    for (place, (word, old)) in (0u32..).zip(device.words().iter().zip(before.words())) {
+        if word != old {
+            add_change(text, place, *word);
+        }
+    }
+    if text.is_empty() {
+        text.add(b"none");
+    }
 }

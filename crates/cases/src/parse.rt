@@ -2,8 +2,7 @@
 ghost use Rattle.std.specs.Prelude.{◌≤◌, length, IfSome};
 
 use arrayvec::ArrayVec;
-use bstr::ByteSlice;
-use console::parse::read_number;
+use console::parse::{digit_of, read_number};
 
 // The call of a line, the answer and the changed words that it must give; a part that is not there is empty.
 #[derive(Clone, Copy)]
@@ -13,32 +12,54 @@ pub struct Parts<'a> {
     pub changes: &'a [u8],
 }
 
-// The text before a sign and the text behind it, which is empty where the sign is not there.
-fn split_at_sign<'a>(text: &'a [u8], sign: &[u8]) -> (&'a [u8], &'a [u8]) {
-    text.split_once_str(sign).unwrap_or((text, &[]))
+// The text before a sign and the text behind it, if the sign is there.
+pub(crate) fn split_once(text: &[u8], sign: u8) -> Option<(&[u8], &[u8])> {
+    let at = text.iter().position(|b| *b == sign)?;
+    Some((&text[..at], &text[at + 1..]))
+}
+
+// The same; all of the text and nothing, if the sign is not there.
+fn split_at_sign(text: &[u8], sign: u8) -> (&[u8], &[u8]) {
+    split_once(text, sign).unwrap_or((text, &[]))
+}
+
+// The text without the spaces at its end.
+fn trim_spaces_end(text: &[u8]) -> &[u8] {
+    match text.iter().rposition(|b| *b != b' ') {
+        Some(last) => &text[..last + 1],
+        None => &[],
+    }
+}
+
+// The text without the spaces around it.
+fn trim_spaces(text: &[u8]) -> &[u8] {
+    match text.iter().position(|b| *b != b' ') {
+        Some(first) => trim_spaces_end(&text[first..]),
+        None => &[],
+    }
 }
 
 impl<'a> Parts<'a> {
     // The parts of a line, if it makes a call.
     pub(crate) fn of(line: &'a [u8]) -> Option<Parts<'a>> {
-        let (text, _comment) = split_at_sign(line, b"#");
-        let text = text.trim_end_with(|c| c == ' ');
+        let (text, _comment) = split_at_sign(line, b'#');
+        let text = trim_spaces_end(text);
         if text.is_empty() {
             return None;
         }
-        let (front, changes) = split_at_sign(text, b";");
-        let (call, answer) = split_at_sign(front, b"=");
+        let (front, changes) = split_at_sign(text, b';');
+        let (call, answer) = split_at_sign(front, b'=');
         Some(Parts {
-            call: call.trim_end_with(|c| c == ' '),
-            answer: answer.trim_with(|c| c == ' '),
-            changes: changes.trim_with(|c| c == ' '),
+            call: trim_spaces_end(call),
+            answer: trim_spaces(answer),
+            changes: trim_spaces(changes),
         })
     }
 }
 
 // The word of a call, and up to five numbers behind it, each after one space.
 pub(crate) fn word_and_numbers(call: &[u8]) -> (&[u8], Option<ArrayVec<u64, 5>>) {
-    match call.split_once_str(b" ") {
+    match split_once(call, b' ') {
         Some((word, rest)) => (word, numbers(rest)),
         None => (call, Some(ArrayVec::new())),
     }
@@ -55,7 +76,10 @@ fn numbers(text: &[u8]) -> Option<ArrayVec<u64, 5>> {
 
 // The byte that two hex digits are.
 fn byte(pair: &[u8]) -> Option<u8> {
-    u8::try_from(read_number(pair)?).ok()
+    let &[high, low] = pair else {
+        return None;
+    };
+    u8::try_from(digit_of(high)? * 16 + digit_of(low)?).ok()
 }
 
 // Puts bytes from hex digits into the front of a buffer; gives how many they are. `.` is no byte.

@@ -3,7 +3,6 @@ ghost use Rattle.std.specs.Prelude.{◌≤◌};
 
 use crate::command::Call;
 use model::Errno;
-use std::alloc::{AllocError, Global};
 use std::mem;
 
 // The words of the longest state that is lent.
@@ -20,9 +19,6 @@ pub struct Device {
     ghost within: { lent ≤ 1761 },
 }
 
-// A word that differs, as its place and its value.
-pub type Change = (usize, u32);
-
 impl Device {
     // A device of zeros.
     fn new() -> Device {
@@ -30,6 +26,11 @@ impl Device {
             words: [0; MOST_WORDS],
             lent: 1760,
         }
+    }
+
+    // All of its words.
+    pub(crate) fn words(&self) -> &[u32; MOST_WORDS] {
+        &self.words
     }
 
     // The words that a call is lent.
@@ -73,34 +74,21 @@ impl Device {
         *self.words.get_mut(at)? = x;
         Some(())
     }
-
-    // The words that differ from those of another device.
-    pub(crate) fn changes(&self, alloc: Global, other: &Device) -> Result<Vec<Change>, AllocError> {
-        self.words
-            .iter()
-            .zip(&other.words)
-            .enumerate()
-            .filter(|(_, (word, before))| word != before)
-            .map(|(at, (word, _))| (at, *word))
-            .collect(alloc)
-    }
 }
 
 #[derive(Drop)]
 pub struct Room {
-    pub alloc: Global,
     pub device: Device,
     pub other: Device,
     pub buffer: [u8; BUFFER],
-    device_at_mark: Device,
+    pub device_at_mark: Device,
     buffer_at_mark: [u8; BUFFER],
 }
 
 impl Room {
     // A device just made, another one, and a buffer of a5.
-    pub(crate) fn new(alloc: Global) -> Room {
+    pub(crate) fn new() -> Room {
         Room {
-            alloc,
             device: Device::new(),
             other: Device::new(),
             buffer: [0xa5; BUFFER],
@@ -126,23 +114,13 @@ impl Room {
         mem::swap(&mut self.device, &mut self.other);
     }
 
-    // The words of the device that differ from the mark.
-    pub(crate) fn changed(&self) -> Result<Vec<Change>, AllocError> {
-        self.device.changes(self.alloc, &self.device_at_mark)
-    }
-
-    // Those that differ from the other device's.
-    pub(crate) fn differing(&self) -> Result<Vec<Change>, AllocError> {
-        self.device.changes(self.alloc, &self.other)
-    }
-
     // So many bytes of the buffer from a place on.
     pub(crate) fn shown(&self, at: usize, n: usize) -> Option<&[u8]> {
         self.buffer.get(at..)?.get(..n)
     }
 
     // The first and the last byte of the buffer that differ from the mark.
-    pub(crate) fn touched(&self) -> Option<(usize, usize)> {
+    pub(crate) fn touched(&self) -> Option<(u32, u32)> {
         let first = self
             .buffer
             .iter()
@@ -153,6 +131,6 @@ impl Room {
             .iter()
             .zip(&self.buffer_at_mark)
             .rposition(|(a, b)| a != b)?;
-        Some((first, last))
+        Some((first as u32, last as u32))
     }
 }

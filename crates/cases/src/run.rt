@@ -1,12 +1,11 @@
 // A line's command is run.
 use crate::answer::Answer;
 use crate::command::{Act, Call, Command, Question, Transfer, command_of};
-use crate::parse::{read_pairs, word_and_numbers};
+use crate::parse::{read_pairs, split_once, word_and_numbers};
 use crate::room::{BUFFER, Device, Room};
-use bstr::ByteSlice;
+use crate::text::Text;
 use console::parse::read_number;
 use model::Errno;
-use std::alloc::{AllocError, Global};
 
 impl Call {
     // Makes the call.
@@ -38,44 +37,47 @@ impl Call {
 }
 
 // The front part of a buffer that save hands back, or its refusal.
-fn save(device: &Device, buffer: &mut [u8], alloc: Global) -> Result<Answer, AllocError> {
-    match calls::save(device.state(), buffer) {
-        Ok(front) => Ok(Answer::Bytes(front.to_vec(alloc)?)),
-        Err(e) => Ok(Answer::Refused(e)),
+fn save<'a>(device: &Device, buffer: &'a mut [u8]) -> Answer<'a> {
+    let mut answer: i64 = 1;
+    let front = calls::save(device.state(), buffer, &mut answer);
+    if answer < 0 {
+        return Answer::Refused(answer);
     }
+    Answer::Bytes(front)
 }
 
 impl Room {
     // Makes a call with the first n bytes of the buffer.
-    fn transfer(&mut self, transfer: Transfer, n: usize) -> Result<Option<Answer>, AllocError> {
-        let Some(buffer) = self.buffer.get_mut(..n) else {
-            return Ok(None);
-        };
+    fn transfer(&mut self, transfer: Transfer, n: usize, text: &mut Text) -> Option<()> {
+        let buffer = self.buffer.get_mut(..n)?;
         let answer = match transfer {
-            Transfer::Save => save(&self.device, buffer, self.alloc)?,
+            Transfer::Save => save(&self.device, buffer),
             Transfer::Record => Answer::of_read(calls::fill(self.device.state(), buffer)),
             Transfer::Load => Answer::of_call(self.device.restore(buffer)),
         };
-        Ok(Some(answer))
+        answer.write(text);
+        Some(())
     }
 
     // Restores bytes that are given as digits.
-    fn restore(&mut self, digits: &[u8]) -> Option<Answer> {
+    fn restore(&mut self, digits: &[u8], text: &mut Text) -> Option<()> {
         let mut record = [0; BUFFER];
         let n = read_pairs(digits, &mut record)?;
-        Some(Answer::of_call(self.device.restore(&record[..n])))
+        Answer::of_call(self.device.restore(&record[..n])).write(text);
+        Some(())
     }
 
     // Replaces bytes of the buffer, from a place on, by digits behind a space.
-    fn replace(&mut self, place_and_digits: &[u8]) -> Option<Answer> {
-        let (place, digits) = place_and_digits.split_once_str(b" ")?;
+    fn replace(&mut self, place_and_digits: &[u8], text: &mut Text) -> Option<()> {
+        let (place, digits) = split_once(place_and_digits, b' ')?;
         let at = read_number(place)?;
         read_pairs(digits, self.buffer.get_mut(at as usize..)?)?;
-        Some(Answer::Done)
+        Answer::Done.write(text);
+        Some(())
     }
 
     // Does what a test wants done.
-    fn act(&mut self, act: Act) -> Option<Answer> {
+    fn act(&mut self, act: Act) -> Option<()> {
         match act {
             Act::Length(n) => self.device.lend(n)?,
             Act::Words(x) => self.device.fill(x),
@@ -85,52 +87,54 @@ impl Room {
             Act::Swap => self.swap(),
             Act::Bytes(x) => self.buffer.fill(x),
         }
-        Some(Answer::Done)
+        Some(())
     }
 
     // Answers what a test wants to know.
-    fn ask(&self, question: Question) -> Result<Option<Answer>, AllocError> {
+    fn ask(&self, question: Question, text: &mut Text) -> Option<()> {
         let answer = match question {
-            Question::Peek(at) => self.device.word(at).map(Answer::Number),
-            Question::Changed => Some(Answer::Changes(self.changed()?)),
-            Question::Differs => Some(Answer::Changes(self.differing()?)),
-            Question::Show(at, n) => match self.shown(at, n) {
-                Some(bytes) => Some(Answer::Bytes(bytes.to_vec(self.alloc)?)),
-                None => None,
-            },
-            Question::Touched => Some(Answer::Span(self.touched())),
+            Question::Peek(at) => Answer::Number(self.device.word(at)?),
+            Question::Changed => Answer::Changes(&self.device, &self.device_at_mark),
+            Question::Differs => Answer::Changes(&self.device, &self.other),
+            Question::Show(at, n) => Answer::Bytes(self.shown(at, n)?),
+            Question::Touched => Answer::Span(self.touched()),
         };
-        Ok(answer)
+        answer.write(text);
+        Some(())
     }
 
     // Runs a command.
-    fn run_command(&mut self, command: Command) -> Result<Option<Answer>, AllocError> {
-        match command {
-            Command::Does(call) => Ok(Some(Answer::of_call(self.device.make(call)))),
-            Command::Reads(call) => Ok(Some(Answer::of_read(self.device.make(call)))),
-            Command::Transfers(transfer, n) => self.transfer(transfer, n),
-            Command::Acts(act) => Ok(self.act(act)),
-            Command::Asks(question) => self.ask(question),
-        }
+    fn run_command(&mut self, command: Command, text: &mut Text) -> Option<()> {
+        let answer = match command {
+            Command::Does(call) => Answer::of_call(self.device.make(call)),
+            Command::Reads(call) => Answer::of_read(self.device.make(call)),
+            Command::Transfers(transfer, n) => return self.transfer(transfer, n, text),
+            Command::Acts(act) => {
+                self.act(act)?;
+                Answer::Done
+            }
+            Command::Asks(question) => return self.ask(question, text),
+        };
+        answer.write(text);
+        Some(())
     }
 
     // Runs a line whose word takes numbers only.
-    fn run_numbers(&mut self, line: &[u8]) -> Result<Option<Answer>, AllocError> {
+    fn run_numbers(&mut self, line: &[u8], text: &mut Text) -> Option<()> {
         let (word, numbers) = word_and_numbers(line);
-        let command = numbers.and_then(|numbers| command_of(word, numbers.as_slice()));
-        match command {
-            Some(command) => self.run_command(command),
-            None => Ok(None),
-        }
+        let command = command_of(word, numbers?.as_slice())?;
+        self.run_command(command, text)
     }
 
-    // Runs a line without its expectations.
-    pub(crate) fn run(&mut self, line: &[u8]) -> Result<Answer, AllocError> {
-        let answer = match line.split_once_str(b" ") {
-            Some((b"restore", digits)) => self.restore(digits),
-            Some((b"byte", place_and_digits)) => self.replace(place_and_digits),
-            _ => self.run_numbers(line)?,
+    // Runs a line without its expectations, and leaves the text of its answer.
+    pub(crate) fn run(&mut self, line: &[u8], text: &mut Text) {
+        let known = match split_once(line, b' ') {
+            Some((b"restore", digits)) => self.restore(digits, text),
+            Some((b"byte", place_and_digits)) => self.replace(place_and_digits, text),
+            _ => self.run_numbers(line, text),
         };
-        Ok(answer.unwrap_or(Answer::Unknown))
+        if known.is_none() {
+            Answer::Unknown.write(text);
+        }
     }
 }

@@ -1,8 +1,8 @@
 // The lines of a session are run and compared with what they must give.
-use crate::answer::Answer;
+use crate::answer::write_changes;
 use crate::parse::Parts;
 use crate::room::Room;
-use std::alloc::Global;
+use crate::text::Text;
 use std::io;
 use std::io::Write;
 
@@ -16,12 +16,14 @@ struct Line<'a> {
 
 impl<'a> Line<'a> {
     // Tells what the line answered, or changed.
-    fn tell(self, printer: &mut impl Write, what: &str, found: &str) -> io::Result<()> {
+    fn tell(self, printer: &mut impl Write, what: &[u8], found: &[u8]) -> io::Result<()> {
         let session = self.session;
         let number = self.number;
         write!(printer, "{session}:{number}: ")?;
         printer.write_all(self.text)?;
-        writeln!(printer, "\n    {what} {found}")
+        printer.write_all(what)?;
+        printer.write_all(found)?;
+        printer.write_all(b"\n")
     }
 
     // Whether what was found differs from what is expected; tells it if so.
@@ -29,45 +31,46 @@ impl<'a> Line<'a> {
         self,
         printer: &mut impl Write,
         expected: &[u8],
-        what: &str,
-        found: &str,
+        what: &[u8],
+        found: &[u8],
     ) -> io::Result<bool> {
-        if found.as_bytes() == expected {
+        if found == expected {
             return Ok(false);
         }
         self.tell(printer, what, found)?;
         Ok(true)
     }
 
-    // Runs the line, which makes a call; gives whether it differs.
-    fn check(self, printer: &mut impl Write, room: &mut Room, parts: Parts) -> io::Result<bool> {
-        let alloc = room.alloc;
+    // Runs the line, which makes a call; gives whether it differs. The texts of its answers are left in a buffer.
+    fn check(
+        self,
+        printer: &mut impl Write,
+        room: &mut Room,
+        parts: Parts,
+        text: &mut Text,
+    ) -> io::Result<bool> {
         let before = room.device;
-        let answer = room.run(parts.call)?.to_string(alloc)?;
+        room.run(parts.call, text);
         // `ok` is expected, if the line does not say.
         let expected = if parts.answer.is_empty() {
             b"ok"
         } else {
             parts.answer
         };
-        let wrong = self.differs(printer, expected, "answered", answer.as_str())?;
+        let wrong = self.differs(printer, expected, b"\n    answered ", text.as_slice())?;
         if parts.changes.is_empty() {
             return Ok(wrong);
         }
-        let changes = Answer::Changes(room.device.changes(alloc, &before)?).to_string(alloc)?;
-        let changed = self.differs(printer, parts.changes, "changed", changes.as_str())?;
+        write_changes(text, &room.device, &before);
+        let changed = self.differs(printer, parts.changes, b"\n    changed ", text.as_slice())?;
         Ok(wrong | changed)
     }
 }
 
 // Runs the lines of a session on a device just made, and says how many make a call and how many differ.
-pub(crate) fn run_session(
-    printer: &mut impl Write,
-    alloc: Global,
-    session: &str,
-    text: &[u8],
-) -> io::Result<()> {
-    let mut room = Room::new(alloc);
+pub(crate) fn run_session(printer: &mut impl Write, session: &str, text: &[u8]) -> io::Result<()> {
+    let mut room = Room::new();
+    let mut found = Text::new();
     let mut lines: u64 = 0;
     let mut differ: u64 = 0;
     for (number, text) in (1u64..).zip(text.split(|b| *b == b'\n')) {
@@ -79,7 +82,7 @@ pub(crate) fn run_session(
             number,
             text,
         };
-        let differs = line.check(printer, &mut room, parts)?;
+        let differs = line.check(printer, &mut room, parts, &mut found)?;
         lines = lines.saturating_add(1);
         differ = differ.saturating_add(u64::from(differs));
     }

@@ -1,5 +1,5 @@
 -- A line run on a device's words; the lines of an input, and what they print.
-use Rattle.std.specs.Prelude.{ℕ, cond, List, [], ◌∷◌, ◌++◌, ◌≡◌, eqb, ltb, length, Option, Some, None}
+use Rattle.std.specs.Prelude.{ℕ, cond, List, [], ◌∷◌, ◌++◌, ◌≡◌, eqb, ltb, length, take, Option, Some, None}
 use Rattle.model.specs.Calls.{call, made}
 use Rattle.console.specs.Commands.{call_of, is_read}
 use Rattle.console.specs.Text.{joined, parsed}
@@ -60,9 +60,9 @@ block_read t (b ∷ bs) = block_read (byte_read t b) bs
 unfoldable pub input_ended : Session → Session
 input_ended t = cond (eqb (length t.line) 0) t (line_ended t)
 
--- the device's words, the bytes that are kept of the line begun, and what is printed, as one
-abbrev pub session_of : List ℕ → List ℕ → List ℕ → Session
-session_of s l x = record { words = s; line = l; text = x }
+-- the words, the first n bytes of a buffer, and the first k bytes of another
+abbrev pub stands : List ℕ → List ℕ → ℕ → List ℕ → ℕ → Session
+stands s line n out k = record { words = s; line = take n line; text = take k out }
 
 -- the words that a session leaves, and what it prints
 pub record Ends (t : Session) (s : List ℕ) (out : List ℕ) : Type 0 where

@@ -4,15 +4,13 @@
 pub mod parse;
 pub mod print;
 
-ghost use Rattle.std.specs.Prelude.{◌≡◌, [], ◌++◌, ◌+◌, ◌*◌, ◌≤◌, length};
-ghost use Rattle.arrayvec.specs.ArrayVec.{array_vec_len};
+ghost use Rattle.std.specs.Prelude.{◌≡◌, [], ◌++◌, ◌+◌, ◌*◌, ◌≤◌, length, take};
 ghost use Rattle.model.specs.Refusals.{number};
 ghost use Rattle.model.specs.Calls.{Does, call};
 ghost use Rattle.console.specs.Commands.{call_of, is_read};
 ghost use Rattle.console.specs.Text.{parsed};
-ghost use Rattle.console.specs.Sessions.{printed, left, session_of, byte_read, block_read, input_ended, Ends};
+ghost use Rattle.console.specs.Sessions.{printed, left, kept, stands, byte_read, block_read, input_ended, Ends};
 
-use arrayvec::ArrayVec;
 use calls::number_of;
 use model::Errno;
 use parse::parse_line;
@@ -36,8 +34,12 @@ pub enum Command {
     Sig(usize),
 }
 
-// The bytes that are kept of a line begun: at most one more than a line may have.
-pub type Line = ArrayVec<u8, 81>;
+// How many bytes of the line begun are kept, and how many bytes are printed.
+#[derive(Clone, Copy)]
+pub struct Progress {
+    pub kept: usize,
+    pub printed: usize,
+}
 
 // Makes the call of a command.
 #[tactic(auto, unfolding(crate::specs::Commands::call_of))]
@@ -84,61 +86,93 @@ fn reads(command: Command) -> bool
     )
 }
 
-// Runs a line and prints its answer, for which there is room.
+// Runs a line and prints its answer from `at` on; gives where the next is to begin.
 #[tactic(auto, unfolding(crate::specs::Sessions::printed, crate::specs::Sessions::left, crate::specs::Answers::bad_line))]
-pub fn run_line<const N: usize>(state: &mut [u32], line: &[u8], out: &mut ArrayVec<u8, N>)
-    requires { array_vec_len out.old + 24 ≤ N }
+pub fn run_line(state: &mut [u32], line: &[u8], out: &mut [u8], at: usize) -> usize
+    requires { at + 24 ≤ length out.old }
     ensures state_after { state.new ≡ left (parsed line.now) state.old }
-    ensures out_after { out.new.items ≡ out.old.items ++ printed (parsed line.now) state.old }
-    ensures upper_bound { array_vec_len out.new ≤ array_vec_len out.old + 24 }
+    ensures out_after { take result out.new ≡ take at out.old ++ printed (parsed line.now) state.old }
+    ensures upper_bound { result ≤ at + 24 }
 {
     let Some(command) = parse_line(line) else {
-        return append(out, b"?\n");
+        return append(out, at, b"?\n");
     };
     let answer = run(state, command);
-    put_answer(out, reads(command), number_of(answer));
+    put_answer(out, at, reads(command), number_of(answer))
 }
 
 // ---- the input, in blocks
 
-// Reads a byte of the input: it ends the line begun, or is kept.
-#[tactic(auto, using(std::proofs::lemmas::Bool::Decides::nat_tests), unfolding(crate::specs::Sessions::byte_read, crate::specs::Sessions::line_ended, crate::specs::Sessions::byte_kept, crate::specs::Sessions::kept))]
-fn read_byte<const N: usize>(state: &mut [u32], line: &mut Line, b: u8, out: &mut ArrayVec<u8, N>)
-    requires { array_vec_len out.old + 24 ≤ N }
-    ensures printed_after { session_of state.new line.new.items out.new.items ≡ byte_read (session_of state.old line.old.items out.old.items) b }
-    ensures upper_bound { array_vec_len out.new ≤ array_vec_len out.old + 24 }
+// The bytes that are kept of a line: one more than a line may have.
+const MOST_KEPT: usize = 81;
+
+// Keeps a byte of the line begun; gives how many are kept.
+#[tactic(auto, using(std::proofs::lemmas::Bool::Decides::nat_tests), unfolding(crate::specs::Sessions::kept))]
+fn keep(line: &mut [u8], n: usize, b: u8) -> usize
+    requires { (length line.old ≡ 81) × (n ≤ 81) }
+    ensures { (take result line.new ≡ kept (take n line.old) b) × (result ≤ 81) }
 {
-    if b == b'\n' {
-        run_line(state, line.as_slice(), out);
-        line.clear();
-        return;
+    if n >= MOST_KEPT {
+        return n;
     }
-    let _ = line.try_push(b);
+    line[n] = b;
+    n + 1
 }
 
-// Reads a block of the input, and prints the answers of the lines that end in it; the line begun is kept.
-#[tactic(auto, using(crate::proofs::Blocks::each_byte))]
-pub fn run_block<const N: usize>(
+// Reads a byte of the input: it ends the line begun, or is kept.
+#[tactic(auto, using(std::proofs::lemmas::Bool::Decides::nat_tests), unfolding(crate::specs::Sessions::byte_read, crate::specs::Sessions::line_ended, crate::specs::Sessions::byte_kept))]
+fn read_byte(
     state: &mut [u32],
-    line: &mut Line,
-    block: &[u8],
-    out: &mut ArrayVec<u8, N>,
-)
-    requires { array_vec_len out.old + 24 * length block.now ≤ N }
-    ensures { session_of state.new line.new.items out.new.items ≡ block_read (session_of state.old line.old.items out.old.items) block.now }
+    line: &mut [u8],
+    n: usize,
+    b: u8,
+    out: &mut [u8],
+    at: usize,
+) -> Progress
+    requires { (length line.old ≡ 81) × (n ≤ 81) × (at + 24 ≤ length out.old) }
+    ensures printed_after { stands state.new line.new result.kept out.new result.printed ≡ byte_read (stands state.old line.old n out.old at) b }
+    ensures kept_bound { (result.kept ≤ 81) × (result.printed ≤ at + 24) }
 {
-    for b in block {
-        read_byte(state, line, *b, out);
+    if b == b'\n' {
+        let printed = run_line(state, &line[..n], out, at);
+        return Progress { kept: 0, printed };
     }
+    let kept = keep(line, n, b);
+    Progress { kept, printed: at }
+}
+
+// Reads a block of the input, of whose first line `n` bytes are kept already, and prints the answers of the lines that end in it.
+#[tactic(auto, using(crate::proofs::Blocks::each_byte))]
+pub fn run_block(
+    state: &mut [u32],
+    line: &mut [u8],
+    n: usize,
+    block: &[u8],
+    out: &mut [u8],
+) -> Progress
+    requires { (length line.old ≡ 81) × (n ≤ 81) × (24 * length block.now ≤ length out.old) }
+    ensures printed_after { stands state.new line.new result.kept out.new result.printed ≡ block_read (stands state.old line.old n out.old 0) block.now }
+    ensures kept_bound { (result.kept ≤ 81) × (result.printed ≤ length out.new) }
+{
+    let mut kept = n;
+    let mut at: usize = 0;
+    for b in block {
+        let progress = read_byte(state, line, kept, *b, out, at);
+        kept = progress.kept;
+        at = progress.printed;
+    }
+    Progress { kept, printed: at }
 }
 
 // At the end of the input: prints the answer of a last line that lacks its end.
 #[tactic(auto, using(std::proofs::lemmas::Bool::Decides::nat_tests), unfolding(crate::specs::Sessions::input_ended, crate::specs::Sessions::line_ended))]
-pub fn run_last<const N: usize>(state: &mut [u32], line: &[u8], out: &mut ArrayVec<u8, N>)
-    requires { array_vec_len out.old + 24 ≤ N }
-    ensures { Ends (input_ended (session_of state.old line.now out.old.items)) state.new out.new.items }
+pub fn run_last(state: &mut [u32], line: &[u8], n: usize, out: &mut [u8]) -> usize
+    requires { (n ≤ length line.now) × (24 ≤ length out.old) }
+    ensures ends { Ends (input_ended (stands state.old line.now n out.old 0)) state.new (take result out.new) }
+    ensures upper_bound { result ≤ length out.new }
 {
-    if !line.is_empty() {
-        run_line(state, line, out);
+    if n == 0 {
+        return 0;
     }
+    run_line(state, &line[..n], out, 0)
 }

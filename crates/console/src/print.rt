@@ -1,16 +1,15 @@
 // The answers: `ok`, a read's hex, or `-` and errno in decimal.
-ghost use Rattle.std.specs.Prelude.{◌≡◌, ◌++◌, ◌+◌, ◌≤◌, ◌<◌, length, drop};
-ghost use Rattle.arrayvec.specs.ArrayVec.{array_vec_len};
+ghost use Rattle.std.specs.Prelude.{◌≡◌, ◌++◌, ◌+◌, ◌≤◌, ◌<◌, length, take, drop};
 ghost use Rattle.console.specs.Answers.{glyph, number_line, answer_line};
 
-use arrayvec::ArrayVec;
-
-// Adds a text to what is printed; there is room for it.
-pub fn append<const N: usize>(out: &mut ArrayVec<u8, N>, text: &[u8])
-    requires { array_vec_len out.old + length text.now ≤ N }
-    ensures { out.new.items ≡ out.old.items ++ text.now }
+// Copies a text into the buffer from `at` on; gives where it ends.
+pub fn append(out: &mut [u8], at: usize, text: &[u8]) -> usize
+    requires { at + length text.now ≤ length out.old }
+    ensures { (result ≡ at + length text.now) × (take result out.new ≡ take at out.old ++ text.now) }
 {
-    let _ = out.try_extend_from_slice(text);
+    let end = at + text.len();
+    out[at..end].copy_from_slice(text);
+    end
 }
 
 // The character of a digit.
@@ -45,31 +44,27 @@ fn spell(text: &mut [u8; 21], n: u64, base: u64) -> usize
 }
 
 // Prints a number.
-pub fn put_number<const N: usize>(out: &mut ArrayVec<u8, N>, n: u64, base: u64)
-    requires room { array_vec_len out.old + 21 ≤ N }
-    requires low { 0 < base }
-    requires high { base ≤ 16 }
-    ensures out_after { out.new.items ≡ out.old.items ++ number_line base n }
-    ensures upper_bound { array_vec_len out.new ≤ array_vec_len out.old + 21 }
+pub fn put_number(out: &mut [u8], at: usize, n: u64, base: u64) -> usize
+    requires { (at + 21 ≤ length out.old) × (0 < base) × (base ≤ 16) }
+    ensures { (take result out.new ≡ take at out.old ++ number_line base n) × (result ≤ at + 21) }
 {
     let mut text = [0u8; 21];
     let from = spell(&mut text, n, base);
-    append(out, &text[from..]);
+    append(out, at, &text[from..])
 }
 
 // Prints the answer of a call.
 #[tactic(auto, unfolding(crate::specs::Answers::answer_line))]
-pub fn put_answer<const N: usize>(out: &mut ArrayVec<u8, N>, reading: bool, answer: i64)
-    requires { array_vec_len out.old + 24 ≤ N }
-    ensures out_after { out.new.items ≡ out.old.items ++ answer_line reading answer }
-    ensures upper_bound { array_vec_len out.new ≤ array_vec_len out.old + 24 }
+pub fn put_answer(out: &mut [u8], at: usize, reading: bool, answer: i64) -> usize
+    requires { at + 24 ≤ length out.old }
+    ensures { (take result out.new ≡ take at out.old ++ answer_line reading answer) × (result ≤ at + 24) }
 {
     if answer < 0 {
-        append(out, b"-");
-        put_number(out, answer.unsigned_abs(), 10);
+        let next = append(out, at, b"-");
+        put_number(out, next, answer.unsigned_abs(), 10)
     } else if reading {
-        put_number(out, answer.unsigned_abs(), 16);
+        put_number(out, at, answer.unsigned_abs(), 16)
     } else {
-        append(out, b"ok\n");
+        append(out, at, b"ok\n")
     }
 }

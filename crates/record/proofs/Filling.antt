@@ -1,7 +1,7 @@
 -- Save counts and writes the record part by part: what is left gives, with what is done, the whole.
 use Prim.Native.Nat.{ℕ, ◌+◌, ◌*◌, ◌≤◌, ◌<◌}
 use mathlib.Core.Path.{◌≡◌, refl, sym, ap, ◌∙◌}
-use mathlib.Core.Bool.{true}
+use mathlib.Core.Bool.{Bool, true}
 use mathlib.Core.List.{List, [], ◌∷◌, ◌++◌, append_assoc}
 use native.Mathlib.Omega.{arith}
 use native.Mathlib.Nat.{zero-add}
@@ -18,8 +18,10 @@ use Rattle.model.specs.Demands.{Stopped}
 use Rattle.model.proofs.Numbers.{encode-short}
 use Rattle.model.proofs.Soundness.{stopped-ready}
 use Rattle.std.proofs.lemmas.List.{length-take-le, length-drop, get_or-take, get_or-drop}
-use Rattle.record.specs.Table.{Slot, slot, words_in, shown, slot_read, slot_bytes, slots_in, blank, parts, slots, left_at, ShapeOf, Inside}
+use Rattle.record.specs.Table.{Slot, slot, words_in, shown, plain, slot_read, slot_bytes, slots_in, blank, parts, slots, left_at, ShapeOf, Inside}
 use Rattle.record.specs.Written.{Small, Wrote}
+use Rattle.record.specs.declared.table.Kind.{Kind}
+use Rattle.record.specs.declared.table.Kind.TheVariants.{Exactly, SetUp, Within, Fields, Above, Edges}
 use Rattle.record.specs.declared.table.Part.{Part}
 use Rattle.record.specs.declared.shape.Shape.{Shape}
 use Rattle.record.proofs.Bytes.{sets-next, drop-next}
@@ -27,6 +29,18 @@ use Rattle.record.proofs.Lists.{length_run, run_at}
 use Rattle.record.proofs.Order.{length-slots}
 use Rattle.record.proofs.Saving.{record_is, slot_small}
 use Rattle.record.proofs.Walking.{left-all, left-whole, left_end}
+
+-- a word of a plain part is shown as it is
+as_is : (k : Kind) (w : ℕ) → plain k ≡ true → w ≡ shown k w
+as_is (Exactly n) w h = unfold plain in (let z : ◌≡◌ {A = ℕ} 0 1 = cc in absurd (omega arith))
+as_is SetUp w h = unfold shown in refl
+as_is (Within m) w h = unfold shown in refl
+as_is (Fields b) w h = unfold shown in refl
+as_is (Above a m) w h = unfold plain in (let z : ◌≡◌ {A = ℕ} 0 1 = cc in absurd (omega arith))
+as_is (Edges b) w h = unfold plain in (let z : ◌≡◌ {A = ℕ} 0 1 = cc in absurd (omega arith))
+
+pub plain_word : (k : Kind) (ws : List ℕ) (j v : ℕ) → plain k ≡ true → v ≡ word ws j → v ≡ shown k (get_or ws j 0)
+plain_word k ws j v h e = e ∙ as_is k (get_or ws j 0) h
 
 -- ---- bytes one after the other
 

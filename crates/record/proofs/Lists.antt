@@ -71,6 +71,15 @@ module _ {A B : Type 0} {R : A → B → Type 0} where
   match-each f g b zero h = none
   match-each f g b (suc k) h = match-append (h b (omega arith) (omega arith)) (match-each f g (suc b) k (λ v l m. h v (omega arith) (omega arith)))
 
+  pub match-length : {xs : List A} {ys : List B} → Match R xs ys → length xs ≡ length ys
+  match-length none = refl
+  match-length (one r p) = ap suc (match-length p)
+
+  pub match-at : {xs : List A} {ys : List B} (x : A) (y : B) → Match R xs ys → (i : ℕ) → i < length xs → R (get_or xs i x) (get_or ys i y)
+  match-at x y none i h = absurd (not-suc-le-zero h)
+  match-at x y (one r p) zero h = r
+  match-at x y (one r p) (suc i) h = match-at x y p i (omega arith)
+
 -- through a function on the left
 pub match-map : {A B C : Type 0} {R : B → C → Type 0} (f : A → B) {xs : List A} {ys : List C} → Match (λ x y. R (f x) y) xs ys → Match R (map f xs) ys
 match-map f none = none

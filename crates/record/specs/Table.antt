@@ -64,6 +64,15 @@ fixed (Fields b) = false
 fixed (Above a m) = false
 fixed (Edges b) = false
 
+-- the word is shown as it is
+unfoldable pub plain : Kind → Bool
+plain (Exactly n) = false
+plain SetUp = true
+plain (Within m) = true
+plain (Fields b) = true
+plain (Above a m) = false
+plain (Edges b) = false
+
 -- ---- a value of the record: the place of a word, its kind, and which word of its block it is
 
 pub data Slot : Type 0 where

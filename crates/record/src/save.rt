@@ -1,28 +1,44 @@
 // Save: there is room for the whole record before its first byte is written.
-ghost use Rattle.std.specs.Prelude.{◌≡◌, [], ◌∷◌, ◌+◌, ◌≤◌, ◌<◌, leb, length};
+ghost use Rattle.std.specs.Prelude.{◌≡◌, [], ◌∷◌, ◌+◌, ◌≤◌, ◌<◌, true, leb, length};
 ghost use Rattle.model.specs.Sound.{sound};
 ghost use Rattle.model.specs.Refusals.{first_failing, number};
 ghost use Rattle.model.specs.declared.Errno.TheVariants.{Efault};
 ghost use Rattle.model.specs.Record.{record_of};
 ghost use Rattle.model.specs.Calls.{Does, call, save};
 ghost use Rattle.model.specs.Demands.{Stopped};
-ghost use Rattle.record.specs.Table.{slot_bytes, slots_in, ShapeOf, Inside};
+ghost use Rattle.record.specs.Table.{plain, slot_bytes, slots_in, ShapeOf, Inside};
 ghost use Rattle.record.specs.Written.{Small, Wrote, save_checks, front_length};
 
 use crate::number::{number_length, write_number};
 use crate::shape::Shape;
-use crate::table::Part;
+use crate::table::{Part, word_at};
 use model::layout::{STATE_LENGTH, State};
 use model::{Errno, Phase};
 use state::{in_phase, is_sound};
 
 // ---- the length of the record
 
-// The bytes of the values of a part.
+// The bytes of the words of a part that are shown as they are.
+fn plain_length(s: &State, part: Part) -> usize
+    requires { Inside part × Small s.now part × (plain part.kind ≡ true) }
+    ensures { result ≡ length (slot_bytes s.now (slots_in part)) }
+{
+    let words = part.words(s);
+    let mut bytes = 0;
+    for i in 0..words.len() {
+        bytes += number_length(word_at(words, i));
+    }
+    bytes
+}
+
+// The bytes of the values of a part. Most parts are plain: their loop does not ask the kind at each word.
 fn part_length(s: &State, part: Part) -> usize
     requires { Inside part × Small s.now part }
     ensures { result ≡ length (slot_bytes s.now (slots_in part)) }
 {
+    if part.kind.is_plain() {
+        return plain_length(s, part);
+    }
     let mut sum = 0;
     for word in part.words(s) {
         sum += number_length(part.kind.value_of(*word));
@@ -56,11 +72,27 @@ fn has_room(s: &State, len: usize) -> bool
 
 // ---- the record
 
-// Writes the values of a part from `at` on, and answers the place after them: of latches the latch itself, not pending, in which the line of a level interrupt counts too.
+// Writes the words of a part that are shown as they are from `at` on, and answers the place after them.
+fn save_plain(buf: &mut [u8], at: usize, s: &State, part: Part) -> usize
+    requires { Inside part × Small s.now part × (plain part.kind ≡ true) × (at + length (slot_bytes s.now (slots_in part)) ≤ length buf.old) }
+    ensures { Wrote buf.old at (slot_bytes s.now (slots_in part)) result buf.new }
+{
+    let words = part.words(s);
+    let mut after = at;
+    for i in 0..words.len() {
+        after = write_number(buf, after, word_at(words, i));
+    }
+    after
+}
+
+// Writes the values of a part from `at` on, and answers the place after them.
 fn save_part(buf: &mut [u8], at: usize, s: &State, part: Part) -> usize
     requires { Inside part × Small s.now part × (at + length (slot_bytes s.now (slots_in part)) ≤ length buf.old) }
     ensures { Wrote buf.old at (slot_bytes s.now (slots_in part)) result buf.new }
 {
+    if part.kind.is_plain() {
+        return save_plain(buf, at, s, part);
+    }
     let words = part.words(s);
     let mut next = at;
     for word in words {
@@ -108,4 +140,14 @@ pub fn fill(s: &[u32], buf: &mut [u8]) -> Result<u32, Errno>
     };
     check_save(s, buf.len())?;
     Ok(save_record(buf, s) as u32)
+}
+
+// The length of the front part that save hands back: the record's, or 0 where it was refused.
+pub fn front_length(answer: Result<u32, Errno>) -> usize
+    ensures { result ≡ front_length answer }
+{
+    match answer {
+        Ok(n) => n as usize,
+        Err(_) => 0,
+    }
 }

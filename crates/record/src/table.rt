@@ -1,12 +1,12 @@
 // The record as a table of parts, in the order of the record: for each run of words its place, its length, how a word is shown and which words may be there.
 ghost use Rattle.std.specs.Prelude.{◌≡◌, ◌+◌, ◌*◌, ◌^◌, ◌≤◌, ◌<◌, length, get_or};
 ghost use Rattle.model.specs.Words.{spread};
-ghost use Rattle.model.specs.Layout.{state_length, most_vcpus};
+ghost use Rattle.model.specs.Layout.{state_length, most_vcpus, word};
 ghost use Rattle.model.specs.Record.{spi_words, spis};
 ghost use Rattle.model.specs.Demands.{Stopped};
-ghost use Rattle.record.specs.Table.{field_bits, field_least, least_of, shown, hidden, fixed, slot, slot_at, slot_set, words_in, takes, row_of, blank, header_part, distributor_parts, bank_rows, bank_parts, vcpu_parts, interrupt_part, slots, table_of, ShapeOf, Inside};
+ghost use Rattle.record.specs.Table.{field_bits, field_least, least_of, shown, hidden, fixed, plain, slot, slot_at, slot_set, words_in, takes, row_of, blank, header_part, distributor_parts, bank_rows, bank_parts, vcpu_parts, interrupt_part, slots, table_of, ShapeOf, Inside};
 
-use crate::shape::Shape;
+pub use crate::shape::Shape;
 use model::layout::{
     AFFINITY, BPR0, BPR1, COUNT, CTLR, EDGES, ENABLES, FRAME_STATUS, GROUP, INITIALISED,
     LEAST_BPR0, LEAST_BPR1, PMR, ROUTES, STATUS, State, VCPUS,
@@ -158,6 +158,14 @@ impl Block {
 
 // ---- words as they are shown
 
+// A word as it is: of latches the latch itself, not pending, in which the line of a level interrupt counts too.
+pub fn word_at(words: &[u32], i: usize) -> u32
+    requires { i < length words.now }
+    ensures { result ≡ word words.now i }
+{
+    words[i]
+}
+
 // Sixteen edge flags as they are shown. Out of line, so that the loop over the words of a part stays short.
 #[inline(never)]
 fn shown_edges(word: u32) -> u32
@@ -210,6 +218,14 @@ impl Kind {
         ensures { result ≡ fixed self }
     {
         matches!(self, Kind::Exactly(_) | Kind::SetUp)
+    }
+
+    // Whether words are shown as they are.
+    #[tactic(auto, unfolding(crate::specs::Table::plain))]
+    pub fn is_plain(self) -> bool
+        ensures { result ≡ plain self }
+    {
+        matches!(self, Kind::SetUp | Kind::Within(_) | Kind::Fields(_))
     }
 
     // Whether some device of the set-up of `s` shows `x` at a place, which is word `f` of its block.

@@ -1,7 +1,7 @@
 // Runs save and restore, and prints their answers, the bytes that save fills and the words that restore changes. The file stdout holds what document 01 gives for each.
 #![tactic(auto)]
 
-use report::{say, say_changed, say_decimal, say_read, say_written};
+use report::{say, say_changed, say_decimal, say_read, say_signed, say_written};
 use state::{Mpidr, VcpuIndex};
 use std::io;
 use std::io::Write;
@@ -65,17 +65,11 @@ fn fill(out: &mut impl Write, s: &[u32; 1760], buf: &mut [u8]) -> io::Result<()>
 
 // A save that hands the front part back: the result, the part's length, the part, and how many bytes of the buffer are filled.
 fn hand_back(out: &mut impl Write, s: &[u32; 1760], buf: &mut [u8]) -> io::Result<()> {
-    match calls::save(s, buf) {
-        Ok(front) => {
-            let length = front.len();
-            write!(out, " {length}, front {length}:")?;
-            say_bytes(out, front, 0, 80)?;
-        }
-        Err(e) => {
-            say_written(out, Err(e))?;
-            say(out, b", front 0:")?;
-        }
-    }
+    let mut result = 1;
+    let front = calls::save(s, buf, &mut result);
+    say_signed(out, result)?;
+    write!(out, ", front {}:", front.len())?;
+    say_bytes(out, front, 0, 80)?;
     say(out, b"; filled ")?;
     say_decimal(out, filled(buf) as u64)?;
     say(out, b"\n")
@@ -332,20 +326,12 @@ fn targets(out: &mut impl Write) -> io::Result<()> {
 fn round_trip(out: &mut impl Write, name: &[u8], s: &[u32; 1760]) -> io::Result<()> {
     let mut buf = [0u8; 96];
     let mut t = fresh(64);
+    let mut result = 1;
+    let front = calls::save(s, &mut buf, &mut result);
     say(out, name)?;
     say(out, b":")?;
-    let restored = match calls::save(s, &mut buf) {
-        Ok(front) => {
-            let length = front.len();
-            write!(out, " {length}")?;
-            calls::restore(&mut t, front)
-        }
-        Err(e) => {
-            say_written(out, Err(e))?;
-            calls::restore(&mut t, &[])
-        }
-    };
-    say_written(out, restored)?;
+    say_signed(out, result)?;
+    say_written(out, calls::restore(&mut t, front))?;
     say_changed(out, &t, s)?;
     say(out, b"; record")?;
     say_bytes(out, &buf, 6, 28)?;

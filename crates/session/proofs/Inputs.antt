@@ -8,7 +8,7 @@ use Rattle.model.specs.Calls.{made, make, call, describe, Does}
 use Rattle.model.specs.Refusals.{number}
 use Rattle.model.proofs.Refused.{grants, none_is}
 use Rattle.console.specs.Answers.{newline}
-use Rattle.console.specs.Sessions.{Session, kept, line_ended, byte_kept, byte_read, block_read, input_ended, session_of, drill}
+use Rattle.console.specs.Sessions.{Session, kept, line_ended, byte_kept, byte_read, block_read, input_ended, stands, drill}
 use Rattle.console.proofs.Whole.{outputs, input_of, drills}
 use Rattle.session.specs.Inputs.{begins, ReadOn, Answered, Loses, Turns}
 
@@ -52,16 +52,17 @@ unfolding block_read
 answered_none s l had held = record { read_on = record { input = []; words = refl; line = refl }; taken = Consumes-nil had; put = Appends-nil held }
 
 -- a block was read
-abbrev pub read-block : (s l s' l' out' block : List ℕ) → session_of s' l' out' ≡ block_read (begins s l) block → ReadOn (begins s l) s' l'
-read-block s l s' l' out' block e = record { input = block; words = ap (λ (t : Session). t.words) e; line = ap (λ (t : Session). t.line) e }
+abbrev pub read-block : (s l out : List ℕ) (n : ℕ) (s' l' out' : List ℕ) (k p : ℕ) (block : List ℕ) → stands s' l' k out' p ≡ block_read (stands s l n out 0) block
+    → ReadOn (begins s (take n l)) s' (take k l')
+read-block s l out n s' l' out' k p block e = record { input = block; words = ap (λ (t : Session). t.words) e; line = ap (λ (t : Session). t.line) e }
 
 -- and its answers were written
-pub answered_block : (s l s' l' out' block took put : List ℕ) (had has held holds : Option (List ℕ))
-    → session_of s' l' out' ≡ block_read (begins s l) block → Consumes had has took → took ≡ block → Appends held holds put → put ≡ out'
-    → Answered (begins s l) had has held holds s' l'
-answered_block s l s' l' out' block took put had has held holds e c u a v =
+pub answered_block : (s l : List ℕ) (n : ℕ) (s' l' out' : List ℕ) (k p : ℕ) (block took put : List ℕ) (had has held holds : Option (List ℕ))
+    → stands s' l' k out' p ≡ block_read (begins s (take n l)) block → Consumes had has took → took ≡ block → Appends held holds put → put ≡ take p out'
+    → Answered (begins s (take n l)) had has held holds s' (take k l')
+answered_block s l n s' l' out' k p block took put had has held holds e c u a v =
     record {
-      read_on = read-block s l s' l' out' block e;
+      read_on = read-block s l [] n s' l' out' k p block e;
       taken = subst (Consumes had has) u c;
       put = subst (Appends held holds) (v ∙ ap (λ (t : Session). t.text) e) a;
     }
@@ -120,15 +121,13 @@ made_is s h = search (grants, none_is, eq-eqb)
 pub made_state : (s t : List ℕ) (r : ℤ) → length s ≡ 1760 → Does (call make s) r t [] → t ≡ made
 made_state s t r h d = d.state ∙ sym (made_is s h).state
 
-pub session_answers : (m k : List ℕ) (r r' w w' w'' : Option (List ℕ)) (s l last printed out put : List ℕ) → m ≡ made → k ≡ [] → Answered (begins m k) r r' w w' s l
-    → IfSome r (λ input. length input < 2 ^ 64 - 1 → IsAtEnd r') → last ≡ l → printed ≡ [] → out ≡ (input_ended (session_of s last printed)).text
-    → Appends w' w'' put → put ≡ out → IfSome r (λ input. length input < 2 ^ 64 - 1 → Appends w w'' (drill input))
-session_answers m k None r' w w' w'' s l last printed out put d z a e f n o p q = tt
-session_answers m k (Some xs) None w w' w'' s l last printed out put d z a e f n o p q = absurd a.taken
-session_answers m k (Some xs) (Some ys) w w' w'' s l last printed out put d z a e f n o p q = λ h.
-    let b : Answered (begins made []) (Some xs) (Some ys) w w' s l = rw (d, z) at a in
+pub session_answers : (m : List ℕ) (r r' w w' w'' : Option (List ℕ)) (s l out put : List ℕ) → m ≡ made → Answered (begins m []) r r' w w' s l → IfSome r (λ input. length input < 2 ^ 64 - 1 → IsAtEnd r')
+    → out ≡ (input_ended (begins s l)).text → Appends w' w'' put → put ≡ out → IfSome r (λ input. length input < 2 ^ 64 - 1 → Appends w w'' (drill input))
+session_answers m None r' w w' w'' s l out put d a e o p q = tt
+session_answers m (Some xs) None w w' w'' s l out put d a e o p q = absurd a.taken
+session_answers m (Some xs) (Some ys) w w' w'' s l out put d a e o p q = λ h.
+    let b : Answered (begins made []) (Some xs) (Some ys) w w' s l = rw d at a in
     let i : List ℕ = b.read_on.input in
     let all : xs ≡ i = b.taken ∙ ap (λ (t : List ℕ). i ++ t) (e h) ∙ append-nil i in
-    let last_text : out ≡ (input_ended (begins s l)).text = rw (f, n) at o in
-    let text : (block_read (begins made []) i).text ++ put ≡ drill xs = ap (λ (t : List ℕ). (block_read (begins made []) i).text ++ t) (q ∙ last_text) ∙ whole i s l b.read_on.words b.read_on.line ∙ ap drill (sym all) in
+    let text : (block_read (begins made []) i).text ++ put ≡ drill xs = ap (λ (t : List ℕ). (block_read (begins made []) i).text ++ t) (q ∙ o) ∙ whole i s l b.read_on.words b.read_on.line ∙ ap drill (sym all) in
     subst (Appends w w'') text (Appends-trans w w' w'' _ _ b.put p)

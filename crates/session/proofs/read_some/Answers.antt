@@ -15,5 +15,5 @@ returns-then-n-eq0-clause-answered g c = answered_end _ _ _ _ _ _ _ c.if-n-eq0.t
 
 pub returns-clause-answered : goal.returns-clause-answered
 returns-clause-answered g c =
-    answered_block _ _ _ _ _ _ _ _ _ _ _ _ (rw c.new-out.ensures at c.run_block.ensures) c.in_ok-n.ensures.bytes.0 (grind (arith, common_steps))
+    answered_block _ _ _ _ _ _ _ _ _ _ _ _ _ _ _ c.run_block-progress.ensures.printed_after c.in_ok-n.ensures.bytes.0 (grind (arith, common_steps))
     c.in_ok-write_all.ensures.bytes (grind (arith, common_steps))
