@@ -74,9 +74,9 @@ module _ (s : List ℕ) (v g : ℕ) where
 
   -- ---- what the best b is to the group
 
-  pub group-tested : (b i : ℕ) (t : Bool) → t ≡ group s v (b % id_span) → i ≡ g → (ltb b (256 * id_span) && eqb (bool_byte t) i) ≡ of_group s v g b
+  pub group-tested : (b : ℕ) (t : Bool) → t ≡ group s v (b % id_span) → (ltb b (256 * id_span) && eqb (bool_byte t) g) ≡ of_group s v g b
   unfolding of_group
-  group-tested b i t e k = rw (← e, k) (go t)
+  group-tested b t e = rw (← e) (go t)
     where
       go : (t : Bool) → (ltb b (256 * id_span) && eqb (bool_byte t) g) ≡ (ltb b (256 * id_span) && eqb (val t) g)
       go true = refl

@@ -84,11 +84,11 @@ pub fn in_group1(s: &State, v: Vcpu, id: usize) -> bool
 }
 
 // Whether `b` is an interrupt of group `g`.
-fn of_group(s: &State, v: Vcpu, g: InterruptGroup, b: u32) -> bool
-    ensures { result ≡ of_group s.now v.index (group_index g) b }
+fn of_group(s: &State, v: Vcpu, g: usize, b: u32) -> bool
+    ensures { result ≡ of_group s.now v.index g b }
 {
     let group = in_group1(s, v, (b % ID_SPAN) as usize) as usize;
-    (b < RANKS) & (group == g.index())
+    (b < RANKS) & (group == g)
 }
 
 // Whether an acknowledge in group `g` gives `b`: of group `g`, its priority below PMR, its group priority below the running one.
@@ -98,15 +98,17 @@ fn is_given(s: &State, v: Vcpu, g: InterruptGroup, b: u32) -> bool
 {
     let p = b / ID_SPAN;
     let level = running_level(s, v);
-    of_group(s, v, g, b) & (p < s[block_at(v) + PMR]) & (group_priority(s, v, g, p) < 8 * level)
+    of_group(s, v, g.index(), b)
+        & (p < s[block_at(v) + PMR])
+        & (group_priority(s, v, g, p) < 8 * level)
 }
 
 // ---- the highest pending, the signal, and acknowledge
 
 // The best's ID if of group `g`, else that of none: HPPIR`g`.
-pub fn highest_pending(s: &State, v: Vcpu, g: InterruptGroup) -> u32
+pub fn highest_pending(s: &State, v: Vcpu, g: usize) -> u32
     requires { Usable s.now v.index }
-    ensures { result ≡ highest_pending s.now v.index (group_index g) }
+    ensures { result ≡ highest_pending s.now v.index g }
 {
     let b = find_best(s, v);
     if of_group(s, v, g, b) {

@@ -28,7 +28,7 @@ fn read_only(s: &mut State, v: Vcpu, register: Readable) -> Result<u32, Errno>
 {
     match register {
         Readable::Iar(g) => acknowledge(s, v, g),
-        Readable::Hppir(g) => Ok(highest_pending(s, v, g)),
+        Readable::Hppir(g) => Ok(highest_pending(s, v, g.index())),
         Readable::Rpr => Ok(running_priority(s, v)),
     }
 }
