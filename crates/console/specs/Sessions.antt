@@ -60,9 +60,9 @@ block_read t (b ∷ bs) = block_read (byte_read t b) bs
 unfoldable pub input_ended : Session → Session
 input_ended t = cond (eqb (length t.line) 0) t (line_ended t)
 
--- the words, the first n bytes of a buffer, and the first k bytes of another
-abbrev pub stands : List ℕ → List ℕ → ℕ → List ℕ → ℕ → Session
-stands s line n out k = record { words = s; line = take n line; text = take k out }
+-- a session at these words, with the first n bytes of a buffer as its line and the first k of another as its text
+abbrev pub session_at : List ℕ → List ℕ → ℕ → List ℕ → ℕ → Session
+session_at s line n out k = record { words = s; line = take n line; text = take k out }
 
 -- the words that a session leaves, and what it prints
 pub record Ends (t : Session) (s : List ℕ) (out : List ℕ) : Type 0 where

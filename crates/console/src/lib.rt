@@ -9,7 +9,7 @@ ghost use Rattle.model.specs.Refusals.{number};
 ghost use Rattle.model.specs.Calls.{Does, call};
 ghost use Rattle.console.specs.Commands.{call_of, is_read};
 ghost use Rattle.console.specs.Text.{parsed};
-ghost use Rattle.console.specs.Sessions.{printed, left, kept, stands, byte_read, block_read, input_ended, Ends};
+ghost use Rattle.console.specs.Sessions.{printed, left, kept, session_at, byte_read, block_read, input_ended, Ends};
 
 use calls::number_of;
 use model::Errno;
@@ -130,7 +130,7 @@ fn read_byte(
     at: usize,
 ) -> Progress
     requires { (length line.old ≡ 81) × (n ≤ 81) × (at + 24 ≤ length out.old) }
-    ensures printed_after { stands state.new line.new result.kept out.new result.printed ≡ byte_read (stands state.old line.old n out.old at) b }
+    ensures printed_after { session_at state.new line.new result.kept out.new result.printed ≡ byte_read (session_at state.old line.old n out.old at) b }
     ensures kept_bound { (result.kept ≤ 81) × (result.printed ≤ at + 24) }
 {
     if b == b'\n' {
@@ -151,7 +151,7 @@ pub fn run_block(
     out: &mut [u8],
 ) -> Progress
     requires { (length line.old ≡ 81) × (n ≤ 81) × (24 * length block.now ≤ length out.old) }
-    ensures printed_after { stands state.new line.new result.kept out.new result.printed ≡ block_read (stands state.old line.old n out.old 0) block.now }
+    ensures printed_after { session_at state.new line.new result.kept out.new result.printed ≡ block_read (session_at state.old line.old n out.old 0) block.now }
     ensures kept_bound { (result.kept ≤ 81) × (result.printed ≤ length out.new) }
 {
     let mut kept = n;
@@ -168,7 +168,7 @@ pub fn run_block(
 #[tactic(auto, using(std::proofs::lemmas::Bool::Decides::nat_tests), unfolding(crate::specs::Sessions::input_ended, crate::specs::Sessions::line_ended))]
 pub fn run_last(state: &mut [u32], line: &[u8], n: usize, out: &mut [u8]) -> usize
     requires { (n ≤ length line.now) × (24 ≤ length out.old) }
-    ensures ends { Ends (input_ended (stands state.old line.now n out.old 0)) state.new (take result out.new) }
+    ensures ends { Ends (input_ended (session_at state.old line.now n out.old 0)) state.new (take result out.new) }
     ensures upper_bound { result ≤ length out.new }
 {
     if n == 0 {

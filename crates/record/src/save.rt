@@ -24,11 +24,11 @@ fn plain_length(s: &State, part: Part) -> usize
     ensures { result ≡ length (slot_bytes s.now (slots_in part)) }
 {
     let words = part.words(s);
-    let mut bytes = 0;
+    let mut sum = 0;
     for i in 0..words.len() {
-        bytes += number_length(word_at(words, i));
+        sum += number_length(word_at(words, i));
     }
-    bytes
+    sum
 }
 
 // The bytes of the values of a part. Most parts are plain: their loop does not ask the kind at each word.
@@ -78,11 +78,11 @@ fn save_plain(buf: &mut [u8], at: usize, s: &State, part: Part) -> usize
     ensures { Wrote buf.old at (slot_bytes s.now (slots_in part)) result buf.new }
 {
     let words = part.words(s);
-    let mut after = at;
+    let mut next = at;
     for i in 0..words.len() {
-        after = write_number(buf, after, word_at(words, i));
+        next = write_number(buf, next, word_at(words, i));
     }
-    after
+    next
 }
 
 // Writes the values of a part from `at` on, and answers the place after them.

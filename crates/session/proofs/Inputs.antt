@@ -8,7 +8,7 @@ use Rattle.model.specs.Calls.{made, make, call, describe, Does}
 use Rattle.model.specs.Refusals.{number}
 use Rattle.model.proofs.Refused.{grants, none_is}
 use Rattle.console.specs.Answers.{newline}
-use Rattle.console.specs.Sessions.{Session, kept, line_ended, byte_kept, byte_read, block_read, input_ended, stands, drill}
+use Rattle.console.specs.Sessions.{Session, kept, line_ended, byte_kept, byte_read, block_read, input_ended, session_at, drill}
 use Rattle.console.proofs.Whole.{outputs, input_of, drills}
 use Rattle.session.specs.Inputs.{begins, ReadOn, Answered, Loses, Turns}
 
@@ -52,13 +52,13 @@ unfolding block_read
 answered_none s l had held = record { read_on = record { input = []; words = refl; line = refl }; taken = Consumes-nil had; put = Appends-nil held }
 
 -- a block was read
-abbrev pub read-block : (s l out : List ℕ) (n : ℕ) (s' l' out' : List ℕ) (k p : ℕ) (block : List ℕ) → stands s' l' k out' p ≡ block_read (stands s l n out 0) block
+abbrev pub read-block : (s l out : List ℕ) (n : ℕ) (s' l' out' : List ℕ) (k p : ℕ) (block : List ℕ) → session_at s' l' k out' p ≡ block_read (session_at s l n out 0) block
     → ReadOn (begins s (take n l)) s' (take k l')
 read-block s l out n s' l' out' k p block e = record { input = block; words = ap (λ (t : Session). t.words) e; line = ap (λ (t : Session). t.line) e }
 
 -- and its answers were written
 pub answered_block : (s l : List ℕ) (n : ℕ) (s' l' out' : List ℕ) (k p : ℕ) (block took put : List ℕ) (had has held holds : Option (List ℕ))
-    → stands s' l' k out' p ≡ block_read (begins s (take n l)) block → Consumes had has took → took ≡ block → Appends held holds put → put ≡ take p out'
+    → session_at s' l' k out' p ≡ block_read (begins s (take n l)) block → Consumes had has took → took ≡ block → Appends held holds put → put ≡ take p out'
     → Answered (begins s (take n l)) had has held holds s' (take k l')
 answered_block s l n s' l' out' k p block took put had has held holds e c u a v =
     record {

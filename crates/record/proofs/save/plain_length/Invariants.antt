@@ -5,4 +5,4 @@ use Rattle.record.proofs.Filling.{Counting}
 use Rattle.record.proofs.save.plain_length.Given as goal
 
 abbrev pub invariant-loop-i : goal.invariant-loop-i
-invariant-loop-i l = Counting (slot_bytes l.fn.s (slots_in l.fn.part)) l.bytes (slot_bytes l.fn.s (drop l.i (slots_in l.fn.part)))
+invariant-loop-i l = Counting (slot_bytes l.fn.s (slots_in l.fn.part)) l.sum (slot_bytes l.fn.s (drop l.i (slots_in l.fn.part)))

@@ -5,4 +5,4 @@ use Rattle.record.proofs.Filling.{Writing}
 use Rattle.record.proofs.save.save_plain.Given as goal
 
 abbrev pub invariant-loop-i : goal.invariant-loop-i
-invariant-loop-i l = Writing l.initial.buf l.initial.after (slot_bytes l.fn.s (slots_in l.fn.part)) l.buf l.after (slot_bytes l.fn.s (drop l.i (slots_in l.fn.part)))
+invariant-loop-i l = Writing l.initial.buf l.initial.next (slot_bytes l.fn.s (slots_in l.fn.part)) l.buf l.next (slot_bytes l.fn.s (drop l.i (slots_in l.fn.part)))
